@@ -1,8 +1,12 @@
 -- The table of refusals: each fault's letter, number and place, and how it is printed. Assumes nothing.
+use mathlib.Core.Path.{_≡_}
+use mathlib.Core.Logic.{_⊎_}
 use mathlib.Core.List.{List, _∷_, _++_}
 use Prim.Native.Nat.{ℕ}
 use lib.Utf8.{encode}
 use Rattle.std.specs.Written.{decimal}
+use Rattle.std.specs.declared.option.Option.{Option}
+use Rattle.std.specs.declared.option.Option.the-variants.{Some, None}
 use Rattle.faults.specs.declared.Fault.{Fault}
 use Rattle.faults.specs.declared.Fault.the-variants.{SampleCount, QuantiserRange, NotANumber, CodeSize, BadEntry, ListsDiffer, DegreeRange, ThresholdRange, TableLength, TableEntry, AmplitudeRange, FrameSize, LevelRange, WeightRange, LimitRange, NoSuchBit, InputLength, RuleLine, BadDigit, DigitCount, NoMemory}
 
@@ -61,6 +65,10 @@ rowOf RuleLine = T 2 0
 rowOf (BadDigit i) = T 3 i
 rowOf (DigitCount i) = T 4 i
 rowOf NoMemory = M 1 0
+
+-- what a call that allocates refuses with, where the table's first fault is o: that one, or want of memory if there is none
+abbrev pub Refused : Option Row → Row → Type 0
+Refused o r = (o ≡ Some r) ⊎ ((o ≡ None) × (r ≡ M 1 0))
 
 -- letter and number, a space, and the place
 abbrev pub printed : Row → List ℕ

@@ -1,0 +1,74 @@
+-- The least number that passes a test, and the largest value of a function.
+use mathlib.Core.Path.{_≡_, refl, sym, ap, _∙_}
+use mathlib.Core.Logic.{_⊎_, inl, inr, ⊎-elim}
+use mathlib.Core.Bool.{Bool, true, false, cond}
+use Prim.Native.Nat.{ℕ, zero, suc, max, _+_, _<_, _≤_}
+use native.Mathlib.Omega.{arith}
+use native.Mathlib.Numerals.{add-one}
+use Rattle.std.specs.declared.option.Option.{Option}
+use Rattle.std.specs.declared.option.Option.the-variants.{Some, None}
+use Rattle.std.proofs.shelf.Tests.{cases-eq, cases-lt}
+use Rattle.codes.specs.First.{orElse, first, most}
+
+-- one more that fails
+pub first-more : (t : ℕ → Bool) (n : ℕ) → first t n ≡ None → t n ≡ false → first t (n + 1) ≡ None
+first-more t n e f = rw (add-one, e, f)
+
+first-here : (t : ℕ → Bool) (n : ℕ) → first t n ≡ None → t n ≡ true → first t (suc n) ≡ Some n
+first-here t n e f = rw (e, f)
+
+first-kept : (t : ℕ → Bool) (n i : ℕ) → first t n ≡ Some i → first t (suc n) ≡ Some i
+first-kept t n i e = rw e
+
+-- the first that passes
+pub first-found : (t : ℕ → Bool) (i n : ℕ) → first t i ≡ None → t i ≡ true → i < n → first t n ≡ Some i
+first-found t i zero e f h = absurd (omega arith)
+first-found t i (suc n) e f h =
+    ⊎-elim
+    (λ (same : i ≡ n). let g : first t n ≡ None = rw same at e in let k : t n ≡ true = rw same at f in first-here t n g k ∙ ap Some (sym same))
+    (λ (other : i ≡ n → ⊥). first-kept t n i (first-found t i n e f (omega arith)))
+    (cases-eq i n)
+
+pub most-more : (f : ℕ → ℕ) (n : ℕ) → most f (n + 1) ≡ max (most f n) (f n)
+most-more f n = rw add-one
+
+or-else-none : (o u : Option ℕ) → orElse o u ≡ None → (o ≡ None) × (u ≡ None)
+or-else-none None u e = (refl, e)
+or-else-none (Some i) u e = let z : _≡_ {A = ℕ} 0 1 = cc in absurd (omega arith)
+
+cond-none : (b : Bool) (n : ℕ) → cond b (Some n) None ≡ None → b ≡ false
+cond-none true n e = let z : _≡_ {A = ℕ} 0 1 = cc in absurd (omega arith)
+cond-none false n e = refl
+
+-- where none passes, each fails
+pub first-none : (t : ℕ → Bool) (n : ℕ) → first t n ≡ None → (i : ℕ) → i < n → t i ≡ false
+first-none t zero e i h = absurd (omega arith)
+first-none t (suc n) e i h =
+    let b = or-else-none (first t n) (cond (t n) (Some n) None) e in
+    ⊎-elim
+    (λ (same : i ≡ n). rw same (cond-none (t n) n (b .1)))
+    (λ (other : i ≡ n → ⊥). first-none t n (b .0) i (omega arith))
+    (cases-eq i n)
+
+-- tests that agree
+pub first-same : (t u : ℕ → Bool) (n : ℕ) → ((i : ℕ) → i < n → t i ≡ u i) → first t n ≡ first u n
+first-same t u zero same = refl
+first-same t u (suc n) same = rw (first-same t u n (λ i h. same i (omega arith)), same n (omega arith))
+
+-- the largest value
+pub most-le : (f : ℕ → ℕ) (n i : ℕ) → i < n → f i ≤ most f n
+most-le f zero i h = absurd (omega arith)
+most-le f (suc n) i h =
+    ⊎-elim
+    (λ (same : i ≡ n). let e : f i ≡ f n = ap f same in omega arith)
+    (λ (other : i ≡ n → ⊥). let l = most-le f n i (omega arith) in omega arith)
+    (cases-eq i n)
+
+pub most-met : (f : ℕ → ℕ) (n : ℕ) → (i : ℕ) × (i < suc n) × (f i ≡ most f (suc n))
+most-met f zero = (0, omega arith, omega arith)
+most-met f (suc n) =
+    let r = most-met f n in
+    ⊎-elim
+    (λ (h : f (suc n) < most f (suc n)). (r .0, omega (arith, r .1), omega (arith, r .2)))
+    (λ (h : most f (suc n) ≤ f (suc n)). (suc n, omega arith, omega arith))
+    (cases-lt (f (suc n)) (most f (suc n)))

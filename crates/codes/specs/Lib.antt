@@ -1,0 +1,9 @@
+pub mod Limits
+pub mod Pairs
+pub mod Answers
+pub mod Lawful
+pub mod Compact
+pub mod First
+pub mod Order
+pub mod Listing
+pub mod Means

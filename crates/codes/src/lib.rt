@@ -1,0 +1,17 @@
+// Parity-check matrices behind one trait: listed, circulant and product codes.
+mod code;
+mod limits;
+mod listed;
+mod matrix;
+mod order;
+mod pair;
+mod table;
+
+pub use code::Code;
+pub use limits::MOST_BIT_DEGREE;
+pub use limits::MOST_BITS;
+pub use limits::MOST_CHECK_DEGREE;
+pub use limits::MOST_CHECKS;
+pub use listed::Listed;
+pub use listed::ListedCode;
+pub use pair::Pair;
