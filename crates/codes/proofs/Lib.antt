@@ -1,3 +1,4 @@
+pub mod Absent
 pub mod Firsts
 pub mod Searched
 pub mod Sorting
@@ -6,3 +7,6 @@ pub mod Spans
 pub mod Tables
 pub mod Passing
 pub mod Meaning
+pub mod Places
+pub mod Images
+pub mod Crossed

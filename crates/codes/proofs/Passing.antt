@@ -18,10 +18,8 @@ use Rattle.codes.specs.Limits.{mostBits, mostChecks, mostInCheck, mostAtBit, s
 use Rattle.codes.specs.First.{first, faultAt}
 use Rattle.codes.specs.Order.{badAt, missingAt, Sorted}
 use Rattle.codes.specs.Listing.{wrongCount, listFault}
+use Rattle.codes.proofs.Absent.{none-some}
 use Rattle.codes.proofs.Sorting.{Good, good, sorted}
-
-none-some : {X : Type 0} (x : Row) → _≡_ {A = Option Row} (Some x) None → X
-none-some x e = let z : _≡_ {A = ℕ} 0 1 = cc in absurd (omega arith)
 
 -- the chain of faults at what each test found
 abbrev chain : Bool → Option ℕ → Option ℕ → Bool → Option ℕ → Option ℕ → Option ℕ → Option Row
@@ -37,17 +35,17 @@ record Passed (b : Bool) (o u : Option ℕ) (d : Bool) (w v y : Option ℕ) : Ty
   bits : y ≡ None
 
 passed : (b : Bool) (o u : Option ℕ) (d : Bool) (w v y : Option ℕ) → chain b o u d w v y ≡ None → Passed b o u d w v y
-passed false o u d w v y e = none-some _ e
-passed true (Some i) u d w v y e = none-some _ e
-passed true None (Some i) d w v y e = none-some _ e
-passed true None None false w v y e = none-some _ e
-passed true None None true (Some i) v y e = none-some _ e
-passed true None None true None (Some i) y e = none-some _ e
-passed true None None true None None (Some i) e = none-some _ e
+passed false o u d w v y e = none-some _ (sym e)
+passed true (Some i) u d w v y e = none-some _ (sym e)
+passed true None (Some i) d w v y e = none-some _ (sym e)
+passed true None None false w v y e = none-some _ (sym e)
+passed true None None true (Some i) v y e = none-some _ (sym e)
+passed true None None true None (Some i) y e = none-some _ (sym e)
+passed true None None true None None (Some i) e = none-some _ (sym e)
 passed true None None true None None None e = record { counts = refl; rows = refl; columns = refl; lengths = refl; missing = refl; checks = refl; bits = refl }
 
 -- what two counts within their limits say
-limits : (bits checks : ℕ) → sizesFit bits checks ≡ true → (1 ≤ bits) × (bits ≤ mostBits) × (1 ≤ checks) × (checks ≤ mostChecks)
+pub limits : (bits checks : ℕ) → sizesFit bits checks ≡ true → (1 ≤ bits) × (bits ≤ mostBits) × (1 ≤ checks) × (checks ≤ mostChecks)
 limits bits checks e =
     let b = and-parts (leb 1 bits && leb bits mostBits) (leb 1 checks && leb checks mostChecks) e in
     let n = and-parts (leb 1 bits) (leb bits mostBits) (b .0) in

@@ -17,13 +17,8 @@ use Rattle.codes.specs.declared.pair.Side.{Side}
 use Rattle.codes.specs.Compact.{span, sizeIn, itemAt, placeOf, placeIn}
 use Rattle.codes.specs.Order.{blank, majorOf, minorOf, codeOf, Sorted, Parts}
 use Rattle.codes.specs.Listing.{Starts}
+use Rattle.codes.proofs.Absent.{none-some, same-some}
 use Rattle.codes.proofs.Spans.{start-below, start-above}
-
-none-some : {X : Type 0} (x : ℕ) → _≡_ {A = Option ℕ} None (Some x) → X
-none-some x e = let z : _≡_ {A = ℕ} 0 1 = cc in absurd (omega arith)
-
-same-some : (x y : ℕ) → _≡_ {A = Option ℕ} (Some x) (Some y) → x ≡ y
-same-some x y e = cc
 
 -- ---- sizes
 pub size-in : (starts : List ℕ) (count c : ℕ) → length starts ≡ count + 1 → c < count → sizeIn starts c ≡ Some (span starts c)

@@ -6,4 +6,5 @@ pub mod Compact
 pub mod First
 pub mod Order
 pub mod Listing
+pub mod Cross
 pub mod Means

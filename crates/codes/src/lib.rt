@@ -5,6 +5,8 @@ mod listed;
 mod matrix;
 mod order;
 mod pair;
+mod product;
+mod shape;
 mod table;
 
 pub use code::Code;
@@ -15,3 +17,5 @@ pub use limits::MOST_CHECKS;
 pub use listed::Listed;
 pub use listed::ListedCode;
 pub use pair::Pair;
+pub use product::Product;
+pub use product::ProductCode;

@@ -1,4 +1,6 @@
 // The limits of every code.
+ghost use mathlib.Core.Path.{_≡_};
+ghost use Rattle.codes.specs.Limits.{sizesFit};
 
 // The most bits of a code.
 pub const MOST_BITS: usize = 4_096;
@@ -10,3 +12,10 @@ pub const MOST_CHECK_DEGREE: usize = 64;
 pub const MOST_BIT_DEGREE: usize = 16;
 // Every bit and every check is numbered below this.
 pub const STRIDE: usize = 4_096;
+
+// Whether a code may have so many bits and checks.
+pub(crate) fn sizes_fit(bits: usize, checks: usize) -> bool
+    ensures { λ r. ⌜ r ≡ sizesFit bits checks ⌝ }
+{
+    (1 <= bits && bits <= MOST_BITS) && (1 <= checks && checks <= MOST_CHECKS)
+}

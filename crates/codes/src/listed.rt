@@ -8,16 +8,15 @@ ghost use Rattle.std.specs.Options.{mapped};
 ghost use Rattle.std.specs.Results.{Cases};
 ghost use Rattle.std.specs.Vec.{made};
 ghost use Rattle.faults.specs.Rows.{rowOf, Refused};
-ghost use Rattle.codes.specs.Limits.{stride, sizesFit};
+ghost use Rattle.codes.specs.Limits.{stride};
 ghost use Rattle.codes.specs.Listing.{listFault, MadeListed, Starts};
 ghost use Rattle.codes.specs.Means.{listedOf};
 ghost use Rattle.codes.specs.Order.{minorOf, Sorted};
 use crate::code::Code;
 use crate::limits::MOST_BIT_DEGREE;
-use crate::limits::MOST_BITS;
 use crate::limits::MOST_CHECK_DEGREE;
-use crate::limits::MOST_CHECKS;
 use crate::limits::STRIDE;
+use crate::limits::sizes_fit;
 use crate::matrix::Matrix;
 use crate::order::first_bad;
 use crate::order::first_missing;
@@ -31,13 +30,6 @@ use faults::Fault;
 use faults::FaultFromAlloc;
 use std::alloc::AllocError;
 use std::alloc::Global;
-
-// Whether a code may have so many bits and checks.
-pub(crate) fn sizes_fit(bits: usize, checks: usize) -> bool
-    ensures { λ r. ⌜ r ≡ sizesFit bits checks ⌝ }
-{
-    (1 <= bits && bits <= MOST_BITS) && (1 <= checks && checks <= MOST_CHECKS)
-}
 
 // Where the pairs of each number begin.
 fn starts_of(heap: Global, side: Side, pairs: &[Pair], count: usize) -> Result<Vec<u32>, AllocError>
