@@ -10,3 +10,6 @@ pub mod Meaning
 pub mod Places
 pub mod Images
 pub mod Crossed
+pub mod Counts
+pub mod Turning
+pub mod Building

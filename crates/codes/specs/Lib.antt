@@ -7,4 +7,7 @@ pub mod First
 pub mod Order
 pub mod Listing
 pub mod Cross
+pub mod Degrees
+pub mod Circles
+pub mod Turns
 pub mod Means

@@ -21,6 +21,10 @@ mostInCheck = 64
 abbrev pub mostAtBit : ℕ
 mostAtBit = 16
 
+-- the largest size of a circulant
+abbrev pub mostSize : ℕ
+mostSize = 256
+
 -- counts of bits and of checks that a code may have
 abbrev pub sizesFit : ℕ → ℕ → Bool
 sizesFit bits checks = (leb 1 bits && leb bits mostBits) && (leb 1 checks && leb checks mostChecks)

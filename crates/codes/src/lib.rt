@@ -1,5 +1,8 @@
 // Parity-check matrices behind one trait: listed, circulant and product codes.
+mod circulant;
 mod code;
+mod expand;
+mod grid;
 mod limits;
 mod listed;
 mod matrix;
@@ -8,6 +11,8 @@ mod pair;
 mod product;
 mod shape;
 mod table;
+mod turn;
+mod turns;
 
 pub use code::Code;
 pub use limits::MOST_BIT_DEGREE;

@@ -10,6 +10,8 @@ pub const MOST_CHECKS: usize = 4_096;
 pub const MOST_CHECK_DEGREE: usize = 64;
 // The most checks that hold a bit.
 pub const MOST_BIT_DEGREE: usize = 16;
+// The largest size of a circulant.
+pub const MOST_SIZE: usize = 256;
 // Every bit and every check is numbered below this.
 pub const STRIDE: usize = 4_096;
 
