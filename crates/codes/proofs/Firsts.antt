@@ -2,11 +2,12 @@
 use mathlib.Core.Path.{_≡_, refl, sym, ap, _∙_}
 use mathlib.Core.Logic.{_⊎_, inl, inr, ⊎-elim}
 use mathlib.Core.Bool.{Bool, true, false, cond}
-use Prim.Native.Nat.{ℕ, zero, suc, max, _+_, _<_, _≤_}
+use Prim.Native.Nat.{ℕ, zero, suc, max, _+_, _*_, _/_, _<_, _≤_}
 use native.Mathlib.Omega.{arith}
 use native.Mathlib.Numerals.{add-one}
 use Rattle.std.specs.declared.option.Option.{Option}
 use Rattle.std.specs.declared.option.Option.the-variants.{Some, None}
+use Rattle.std.proofs.shelf.Bits.{mul-add-lt, div-mul-add, div-below}
 use Rattle.std.proofs.shelf.Tests.{cases-eq, cases-lt}
 use Rattle.codes.specs.First.{orElse, first, most}
 
@@ -50,10 +51,28 @@ first-none t (suc n) e i h =
     (λ (other : i ≡ n → ⊥). first-none t n (b .0) i (omega arith))
     (cases-eq i n)
 
+pub first-all : (t : ℕ → Bool) (n : ℕ) → ((i : ℕ) → i < n → t i ≡ false) → first t n ≡ None
+first-all t zero none = refl
+first-all t (suc n) none = rw (first-all t n (λ i h. none i (omega arith)), none n (omega arith))
+
 -- tests that agree
 pub first-same : (t u : ℕ → Bool) (n : ℕ) → ((i : ℕ) → i < n → t i ≡ u i) → first t n ≡ first u n
 first-same t u zero same = refl
 first-same t u (suc n) same = rw (first-same t u n (λ i h. same i (omega arith)), same n (omega arith))
+
+-- a test of blocks passes first at the start of the first block
+block-false : (t u : ℕ → Bool) (i size : ℕ) → 0 < size → ((x : ℕ) → x < i * size → t x ≡ u (x / size)) → first u i ≡ None → first t (i * size) ≡ None
+block-false t u i size some same e = first-all t (i * size) (λ x h. same x h ∙ first-none u i e (x / size) (div-below x size i some h))
+
+pub first-block : (t u : ℕ → Bool) (i n size : ℕ) → 0 < size → ((x : ℕ) → x < n * size → t x ≡ u (x / size)) → i < n → first u i ≡ None → u i ≡ true → first t (n * size) ≡ Some (i * size)
+first-block t u i n size some same h e f =
+    let le : i * size + 0 < n * size = omega (arith, mul-add-lt i size 0 n h some) in
+    let z : i * size + 0 ≡ i * size = omega arith in
+    let at : t (i * size) ≡ true = same (i * size) (omega arith) ∙ ap (λ k. u (k / size)) (sym z) ∙ ap u (div-mul-add i size 0 some) ∙ f in
+    first-found t (i * size) (n * size) (block-false t u i size some (λ x l. same x (omega arith)) e) at (omega arith)
+
+pub first-no-block : (t u : ℕ → Bool) (n size : ℕ) → 0 < size → ((x : ℕ) → x < n * size → t x ≡ u (x / size)) → first u n ≡ None → first t (n * size) ≡ None
+first-no-block t u n size some same e = block-false t u n size some same e
 
 -- the largest value
 pub most-le : (f : ℕ → ℕ) (n i : ℕ) → i < n → f i ≤ most f n

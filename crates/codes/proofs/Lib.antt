@@ -13,3 +13,7 @@ pub mod Crossed
 pub mod Counts
 pub mod Turning
 pub mod Building
+pub mod Held
+pub mod Fitting
+pub mod Circling
+pub mod Accepting

@@ -19,12 +19,12 @@ use Rattle.codes.specs.Lawful.{Lawful}
 use Rattle.codes.specs.Limits.{mostInCheck, mostAtBit}
 use Rattle.codes.specs.Listing.{wrongCount, listFault, listedPairs, MadeListed, Starts}
 use Rattle.codes.specs.Order.{blank, majorOf, minorOf, samePair, hasPair, missingAt, countIn, codeOf, Sorted}
-use Rattle.codes.proofs.Firsts.{first-none, most-le, most-met}
+use Rattle.codes.proofs.Firsts.{first-none}
 use Rattle.codes.proofs.Searched.{has-here, has-where}
 use Rattle.codes.proofs.Pigeons.{pigeons}
 use Rattle.codes.proofs.Spans.{span-count}
-use Rattle.codes.proofs.Tables.{table, size-in, size-read}
-use Rattle.codes.proofs.Passing.{Fine, fine}
+use Rattle.codes.proofs.Tables.{table, widest-most, widest-met}
+use Rattle.codes.proofs.Passing.{in-limits, Fine, fine}
 
 -- ---- the pairs of a list
 same-as : (p q : Pair) → p .check ≡ q .check → p .bit ≡ q .bit → samePair p q ≡ true
@@ -69,15 +69,9 @@ module _ (bits checks : ℕ) (xs ys : List Pair) (f : Fine bits checks xs ys) wh
 -- ---- the spans within their limits
 spans-few : (least top : ℕ) (s : Side) (xs : List Pair) (count : ℕ) (starts : List ℕ) → Sorted s xs → Starts s xs count starts → first (wrongCount least top s xs) count ≡ None → (c : ℕ) → c < count → (least ≤ span starts c) × (span starts c ≤ top)
 spans-few least top s xs count starts o t e c h =
-    let w : (leb least (countIn s xs c) && leb (countIn s xs c) top) ≡ true = not-false _ (first-none (wrongCount least top s xs) count e c h) in
-    let b = and-parts (leb least (countIn s xs c)) (leb (countIn s xs c) top) w in
+    let b = in-limits least top (countIn s xs c) (first-none (wrongCount least top s xs) count e c h) in
     let n = span-count s xs count starts o t c h in
-    (omega (arith, n, leb-true least (countIn s xs c) (b .0)), omega (arith, n, leb-true (countIn s xs c) top (b .1)))
-
--- ---- the widest
-widest-met : (cs : List ℕ) (n : ℕ) → 1 ≤ n → (b : ℕ) × (b < n) × (span cs b ≡ most (span cs) n)
-widest-met cs zero h = absurd (omega arith)
-widest-met cs (suc n) h = most-met (span cs) n
+    (omega (arith, n, b .0), omega (arith, n, b .1))
 
 -- ---- all of it
 pub made : (bits checks : ℕ) (xs ys : List Pair) (rs cs : List ℕ) → listFault bits checks xs ys ≡ None → Starts ByCheck xs checks rs → Starts ByBit ys bits cs → MadeListed bits checks xs ys (compact rs (map (minorOf ByCheck) xs) cs (map (minorOf ByBit) ys) (most (span cs) (length cs - 1)))
@@ -85,7 +79,6 @@ made bits checks xs ys rs cs e t u =
     let f = fine bits checks xs ys e in
     let nb : length cs - 1 ≡ bits = omega (arith, u .many) in
     let nc : length rs - 1 ≡ checks = omega (arith, t .many) in
-    let w = widest-met cs bits (f .someBits) in
     record {
       allowed = e;
       lawful = record {
@@ -97,8 +90,8 @@ made bits checks xs ys rs cs e t u =
         fewChecks = f .fewChecks;
         rows = table ByCheck xs checks bits 1 mostInCheck rs (listedPairs bits checks xs .holds) (f .rowsSorted) t (f .rows .bit) (f .rows .check) (spans-few 1 mostInCheck ByCheck xs checks rs (f .rowsSorted) t (f .rowCounts)) (λ j h. listed-at xs j _ _ h refl refl) (λ c b h. index-of xs (record { check = c; bit = b }) h);
         columns = table ByBit ys bits checks 0 mostAtBit cs (λ b c. listedPairs bits checks xs .holds c b) (f .columnsSorted) u (f .columns .check) (f .columns .bit) (spans-few 0 mostAtBit ByBit ys bits cs (f .columnsSorted) u (f .columnCounts)) (second-at bits checks xs ys f) (second-of bits checks xs ys f);
-        widestMost = λ b n s. let r = size-read cs bits b n (u .many) s in let l = most-le (span cs) (length cs - 1) b (omega (arith, r .0, nb)) in omega (arith, r .1, l);
-        widestMet = (w .0, size-in cs bits (w .0) (u .many) (w .1) ∙ ap Some (w .2 ∙ ap (most (span cs)) (sym nb)));
+        widestMost = widest-most cs bits (u .many);
+        widestMet = widest-met cs bits (u .many) (f .someBits);
       };
     }
 

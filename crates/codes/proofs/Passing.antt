@@ -9,12 +9,13 @@ use lib.Dec.{leb, eqb}
 use lib.ListN.{length}
 use Rattle.std.specs.declared.option.Option.{Option}
 use Rattle.std.specs.declared.option.Option.the-variants.{Some, None}
-use Rattle.std.proofs.shelf.Tests.{and-parts, eqb-true, leb-true}
+use Rattle.std.proofs.shelf.Tests.{and-parts, eqb-true, leb-true, not-false}
 use Rattle.faults.specs.Rows.{Row, C}
 use Rattle.codes.specs.declared.pair.Pair.{Pair}
 use Rattle.codes.specs.declared.pair.Side.{Side}
 use Rattle.codes.specs.declared.pair.Side.the-variants.{ByCheck, ByBit}
 use Rattle.codes.specs.Limits.{mostBits, mostChecks, mostInCheck, mostAtBit, sizesFit}
+use Rattle.codes.specs.Degrees.{outside}
 use Rattle.codes.specs.First.{first, faultAt}
 use Rattle.codes.specs.Order.{badAt, missingAt, Sorted}
 use Rattle.codes.specs.Listing.{wrongCount, listFault}
@@ -51,6 +52,12 @@ limits bits checks e =
     let n = and-parts (leb 1 bits) (leb bits mostBits) (b .0) in
     let m = and-parts (leb 1 checks) (leb checks mostChecks) (b .1) in
     (leb-true 1 bits (n .0), leb-true bits mostBits (n .1), leb-true 1 checks (m .0), leb-true checks mostChecks (m .1))
+
+-- what a count that is not outside its limits says
+pub in-limits : (least most n : ℕ) → outside least most n ≡ false → (least ≤ n) × (n ≤ most)
+in-limits least most n e =
+    let b = and-parts (leb least n) (leb n most) (not-false _ e) in
+    (leb-true least n (b .0), leb-true n most (b .1))
 
 -- a list without a bad pair is sorted
 pub sorted-list : (bits checks : ℕ) (s : Side) (xs : List Pair) → sizesFit bits checks ≡ true → None ≡ first (badAt bits checks s xs) (length xs) → Sorted s xs

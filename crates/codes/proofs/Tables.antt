@@ -11,6 +11,7 @@ use Rattle.std.specs.declared.option.Option.{Option}
 use Rattle.std.specs.declared.option.Option.the-variants.{Some, None}
 use Rattle.std.proofs.shelf.Lists.{length-map, getD-map}
 use Rattle.std.proofs.shelf.Tests.{cases-eq, cases-lt, lt-ltb, le-ltb}
+use Rattle.codes.specs.First.{most}
 use Rattle.codes.specs.Lawful.{Table}
 use Rattle.codes.specs.declared.pair.Pair.{Pair}
 use Rattle.codes.specs.declared.pair.Side.{Side}
@@ -18,13 +19,14 @@ use Rattle.codes.specs.Compact.{span, sizeIn, itemAt, placeOf, placeIn}
 use Rattle.codes.specs.Order.{blank, majorOf, minorOf, codeOf, Sorted, Parts}
 use Rattle.codes.specs.Listing.{Starts}
 use Rattle.codes.proofs.Absent.{none-some, same-some}
+use Rattle.codes.proofs.Firsts.{most-le, most-met}
 use Rattle.codes.proofs.Spans.{start-below, start-above}
 
 -- ---- sizes
 pub size-in : (starts : List ℕ) (count c : ℕ) → length starts ≡ count + 1 → c < count → sizeIn starts c ≡ Some (span starts c)
 size-in starts count c many h = let l : 1 < length starts - c = omega arith in rw (lt-ltb 1 (length starts - c) l)
 
-size-out : (starts : List ℕ) (count c : ℕ) → length starts ≡ count + 1 → count ≤ c → sizeIn starts c ≡ None
+pub size-out : (starts : List ℕ) (count c : ℕ) → length starts ≡ count + 1 → count ≤ c → sizeIn starts c ≡ None
 size-out starts count c many h = let l : length starts - c ≤ 1 = omega arith in rw (le-ltb 1 (length starts - c) l)
 
 pub size-read : (starts : List ℕ) (count c n : ℕ) → length starts ≡ count + 1 → sizeIn starts c ≡ Some n → (c < count) × (n ≡ span starts c)
@@ -114,3 +116,16 @@ table s xs count limit least most starts has o t small large degrees into out = 
   noSize = λ c h. size-out starts count c (t .many) h;
   noPlace = λ c p h. rw (size-out starts count c (t .many) h);
 }
+
+-- ---- the longest list
+pub widest-most : (starts : List ℕ) (n : ℕ) → length starts ≡ n + 1 → (c m : ℕ) → sizeIn starts c ≡ Some m → m ≤ most (span starts) (length starts - 1)
+widest-most starts n many c m e =
+    let r = size-read starts n c m many e in
+    omega (arith, r .1, most-le (span starts) (length starts - 1) c (omega (arith, r .0)))
+
+pub widest-met : (starts : List ℕ) (n : ℕ) → length starts ≡ n + 1 → 1 ≤ n → (c : ℕ) × (sizeIn starts c ≡ Some (most (span starts) (length starts - 1)))
+widest-met starts zero many h = absurd (omega arith)
+widest-met starts (suc n) many h =
+    let w = most-met (span starts) n in
+    let e : length starts - 1 ≡ suc n = omega arith in
+    (w .0, size-in starts (suc n) (w .0) many (w .1) ∙ ap Some (w .2 ∙ ap (most (span starts)) (sym e)))

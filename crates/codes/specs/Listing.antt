@@ -12,10 +12,11 @@ use Rattle.codes.specs.declared.pair.Pair.{Pair}
 use Rattle.codes.specs.declared.pair.Side.{Side}
 use Rattle.codes.specs.declared.pair.Side.the-variants.{ByCheck, ByBit}
 use Rattle.codes.specs.Answers.{Answers}
+use Rattle.codes.specs.Degrees.{outside}
 use Rattle.codes.specs.First.{first, faultAt}
 use Rattle.codes.specs.Lawful.{Lawful}
 use Rattle.codes.specs.Limits.{stride, mostInCheck, mostAtBit, sizesFit}
-use Rattle.codes.specs.Order.{badAt, hasPair, missingAt, countIn, outside, Parts}
+use Rattle.codes.specs.Order.{badAt, hasPair, missingAt, countIn, Parts}
 use Rattle.codes.specs.Pairs.{Pairs}
 
 -- a check or a bit with too few pairs or too many

@@ -1,6 +1,7 @@
 -- What each kind of code answers, by what it holds. Assumes nothing.
 use Rattle.std.specs.Of.Vec.{vec-items}
 use Rattle.codes.specs.declared.matrix.Matrix.{Matrix}
+use Rattle.codes.specs.declared.circulant.Circulant.{Circulant}
 use Rattle.codes.specs.declared.listed.Listed.{Listed}
 use Rattle.codes.specs.declared.product.Product.{Product}
 use Rattle.codes.specs.Answers.{Answers}
@@ -12,6 +13,9 @@ matrixOf m = compact (vec-items (m .rows .starts)) (vec-items (m .rows .items)) 
 
 abbrev pub listedOf : Listed → Answers
 listedOf l = matrixOf (l .matrix)
+
+abbrev pub circulantOf : Circulant → Answers
+circulantOf c = matrixOf (c .matrix)
 
 -- a product, by what its parts answer
 abbrev pub productOf : {A B : Type 0} → (A → Answers) → (B → Answers) → Product A B → Answers

@@ -2,7 +2,7 @@
 use mathlib.Core.Bool.{Bool, false, _&&_, _||_, not}
 use mathlib.Core.List.{List, [], _∷_}
 use Prim.Native.Nat.{ℕ, _+_, _-_, _*_, _<_, _≤_}
-use lib.Dec.{ltb, leb, eqb}
+use lib.Dec.{ltb, eqb}
 use lib.ListN.{length, getD}
 use Rattle.std.specs.shelf.Lists.{countBy}
 use Rattle.codes.specs.declared.pair.Pair.{Pair}
@@ -47,10 +47,6 @@ missingAt xs ys i = not (hasPair ys (getD xs i blank))
 -- how many pairs have this check, or this bit
 abbrev pub countIn : Side → List Pair → ℕ → ℕ
 countIn s xs c = countBy (λ p. eqb (majorOf s p) c) xs
-
--- a count outside its limits
-abbrev pub outside : ℕ → ℕ → ℕ → Bool
-outside least most n = not (leb least n && leb n most)
 
 -- both numbers in one, in the order's sense
 abbrev pub codeOf : Side → Pair → ℕ

@@ -1,8 +1,9 @@
 -- How the lists of a circulant code are built: the cells that are not empty, from each side. Assumes nothing.
-use mathlib.Core.Bool.{Bool, cond}
+use mathlib.Core.Path.{_≡_}
+use mathlib.Core.Bool.{Bool, true, false}
 use mathlib.Core.List.{List, [], _∷_, _++_, map}
 use Prim.Native.Nat.{ℕ, zero, suc, _+_, _-_, _*_, _/_, _%_, _<_, _≤_}
-use lib.IntN.{ℤ}
+use lib.IntN.{ℤ, pos}
 use lib.ListN.{length, getD}
 use Rattle.std.specs.Of.Vec.{vec-items}
 use Rattle.std.specs.Options.{isSome}
@@ -13,7 +14,7 @@ use Rattle.codes.specs.declared.pair.Side.{Side}
 use Rattle.codes.specs.declared.pair.Side.the-variants.{ByCheck, ByBit}
 use Rattle.codes.specs.declared.table.Table.{Table}
 use Rattle.codes.specs.declared.turn.Turn.{Turn}
-use Rattle.codes.specs.Circles.{shiftOf, cellAt}
+use Rattle.codes.specs.Circles.{shiftOf, cellFits, cellAt, circulantHolds, gridFits, circulantFault}
 use Rattle.codes.specs.Pairs.{countBelow}
 
 -- the rows and columns of the grid from a side
@@ -86,3 +87,29 @@ withLists f (suc n) r = withList (f n) (withLists f n r)
 -- the list of each check, or of each bit
 abbrev pub listOf : Side → Grid → List ℤ → ℕ → List ℕ
 listOf s g cells x = map (landing (g .size) (x % g .size)) (turnsBelow (turnAt s g cells (x / g .size)) (minors s g))
+
+-- the pairs from a side, and how many there are
+abbrev pub hasAt : Side → Grid → List ℤ → ℕ → ℕ → Bool
+hasAt ByCheck g cells x y = circulantHolds (g .columns) (g .size) cells x y
+hasAt ByBit g cells x y = circulantHolds (g .columns) (g .size) cells y x
+
+abbrev pub degreeAt : Side → Grid → List ℤ → ℕ → ℕ
+degreeAt s g cells x = countBelow (minors s g * g .size) (hasAt s g cells x)
+
+-- a grid with a cell for each row and column, each −1 or a shift below the size
+pub record Sound (g : Grid) (cells : List ℤ) : Type 0 where
+  pub many : length cells ≡ g .rows * g .columns
+  pub good : (i : ℕ) → i < length cells → cellFits (g .size) (getD cells i (pos 0)) ≡ true
+
+-- a grid of these sizes, exactly where they fit
+abbrev pub Gridded : ℕ → ℕ → ℕ → ℕ → Option Grid → Type 0
+Gridded rows columns size count None = gridFits rows columns size count ≡ false
+Gridded rows columns size count (Some g) = (gridFits rows columns size count ≡ true) × (g .rows ≡ rows) × (g .columns ≡ columns) × (g .size ≡ size)
+
+-- g is the grid of these cells, which are not refused
+pub record Accepted (rows columns size : ℕ) (cells : List ℤ) (g : Grid) : Type 0 where
+  pub allowed : circulantFault rows columns size cells ≡ None
+  pub rowsAre : g .rows ≡ rows
+  pub columnsAre : g .columns ≡ columns
+  pub sizeIs : g .size ≡ size
+  pub sound : Sound g cells

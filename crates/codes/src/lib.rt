@@ -14,11 +14,14 @@ mod table;
 mod turn;
 mod turns;
 
+pub use circulant::Circulant;
+pub use circulant::CirculantCode;
 pub use code::Code;
 pub use limits::MOST_BIT_DEGREE;
 pub use limits::MOST_BITS;
 pub use limits::MOST_CHECK_DEGREE;
 pub use limits::MOST_CHECKS;
+pub use limits::MOST_SIZE;
 pub use listed::Listed;
 pub use listed::ListedCode;
 pub use pair::Pair;
