@@ -87,3 +87,23 @@ module _ {size : Option ℕ} {place : ℕ → Option ℕ} {bound : ℕ} {has : �
       (λ (k : l .count ≤ s .at). k)
       (cases-lt (s .at) (l .count)) in
       omega (arith, s .inside, s .counts, all)
+
+-- ---- sets that differ in one number, or in none
+pub count-same : (n : ℕ) (f g : ℕ → Bool) → ((i : ℕ) → i < n → f i ≡ g i) → countBelow n f ≡ countBelow n g
+count-same zero f g same = refl
+count-same (suc n) f g same = rw (count-same n f g (λ i h. same i (omega arith)), same n (omega arith))
+
+pub count-none : (n : ℕ) → countBelow n (λ i. false) ≡ 0
+count-none zero = refl
+count-none (suc n) = omega (arith, count-none n)
+
+pub count-one-more : (n k : ℕ) (f g : ℕ → Bool) → k < n → f k ≡ false → g k ≡ true → ((i : ℕ) → (i ≡ k → ⊥) → g i ≡ f i) → countBelow n g ≡ countBelow n f + 1
+count-one-more zero k f g h out into other = absurd (omega arith)
+count-one-more (suc n) k f g h out into other =
+    ⊎-elim
+    (λ (same : k ≡ n).
+    let fo : f n ≡ false = ap f (sym same) ∙ out in
+    let gi : g n ≡ true = ap g (sym same) ∙ into in
+    rw (fo, gi, count-same n g f (λ i l. other i (λ e. omega arith))) (omega arith))
+    (λ (apart : k ≡ n → ⊥). rw (count-one-more n k f g (omega arith) out into other, other n (λ e. apart (sym e))) (omega arith))
+    (cases-eq k n)

@@ -19,7 +19,7 @@ use Rattle.codes.specs.Limits.{mostInCheck, mostAtBit, sizesFit}
 use Rattle.codes.specs.Pairs.{Pairs}
 use Rattle.codes.proofs.Absent.{none-some, same-some}
 use Rattle.codes.proofs.Images.{has-list, lists-image, lists-joined}
-use Rattle.codes.proofs.Passing.{limits}
+use Rattle.codes.proofs.Limiting.{limits}
 use Rattle.codes.proofs.Places.{factor, quotient, remainder, rows-rise}
 
 module _ (a b : Answers) (pa pb : Pairs) (la : Lawful a pa) (lb : Lawful b pb) where

@@ -24,3 +24,8 @@ most f (suc n) = max (most f n) (f n)
 abbrev pub faultAt : (ℕ → Row) → Option ℕ → Option Row → Option Row
 faultAt f None next = next
 faultAt f (Some i) next = Some (f i)
+
+-- the first of two faults that is there
+abbrev pub orFault : Option Row → Option Row → Option Row
+orFault None next = next
+orFault (Some r) next = Some r

@@ -2,12 +2,8 @@ pub mod Limits
 pub mod Pairs
 pub mod Answers
 pub mod Lawful
-pub mod Compact
 pub mod First
-pub mod Order
-pub mod Listing
-pub mod Cross
 pub mod Degrees
-pub mod Circles
-pub mod Turns
+pub mod Compact
+pub mod Cross
 pub mod Means

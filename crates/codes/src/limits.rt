@@ -16,7 +16,7 @@ pub const MOST_SIZE: usize = 256;
 pub const STRIDE: usize = 4_096;
 
 // Whether a code may have so many bits and checks.
-pub(crate) fn sizes_fit(bits: usize, checks: usize) -> bool
+pub fn sizes_fit(bits: usize, checks: usize) -> bool
     ensures { λ r. ⌜ r ≡ sizesFit bits checks ⌝ }
 {
     (1 <= bits && bits <= MOST_BITS) && (1 <= checks && checks <= MOST_CHECKS)

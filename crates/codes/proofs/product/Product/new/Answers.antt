@@ -2,7 +2,7 @@ use mathlib.Core.Path.{_≡_, sym, _∙_}
 use Prim.Native.Nat.{_+_, _*_}
 use native.Mathlib.Omega.{arith}
 use Rattle.codes.proofs.Crossed.{made-as}
-use Rattle.codes.proofs.Passing.{limits}
+use Rattle.codes.proofs.Limiting.{limits}
 use Rattle.codes.proofs.product.Product.new.Needs as need
 
 -- counts that fit did not saturate

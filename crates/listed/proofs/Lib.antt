@@ -1,0 +1,8 @@
+pub mod Searched
+pub mod Sorting
+pub mod Pigeons
+pub mod Spans
+pub mod Sets
+pub mod Tables
+pub mod Passing
+pub mod Meaning
