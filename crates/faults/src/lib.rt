@@ -6,6 +6,7 @@ ghost use Rattle.faults.specs.declared.Fault.the-variants.{NoMemory};
 ghost use Rattle.faults.specs.Rows.{rowOf, printed};
 use std::alloc::AllocError;
 use std::alloc::Refused;
+use std::error::Error;
 use std::fmt;
 
 // The most bytes that an input of text lines has.
@@ -132,6 +133,8 @@ pub impl fmt::Display for Fault as FaultDisplay {
         write!(f, "{layer}{number} {place}")
     }
 }
+
+pub impl Error for Fault as FaultError {}
 
 pub impl From<AllocError> for Fault as FaultFromAlloc {
     ghost converts = { λ _ f. f ≡ NoMemory };
