@@ -1,7 +1,7 @@
 // The lists of a circulant code, built from the cells of its grid.
 ghost use mathlib.Core.Path.{_≡_};
 ghost use mathlib.Core.List.{map, _++_};
-ghost use Prim.Native.Nat.{_+_, _*_, _<_, _≤_, _^_};
+ghost use Prim.Native.Nat.{_+_, _*_, _%_, _<_, _≤_, _^_};
 ghost use lib.ListN.{length};
 ghost use Rattle.std.specs.Of.Vec.{vec-items};
 ghost use Rattle.std.specs.Vec.{made};
@@ -17,6 +17,16 @@ use codes::Table;
 use std::alloc::AllocError;
 use std::alloc::Global;
 
+// The place that is `by` further on, round a circle of this size.
+fn turned(size: usize, offset: usize, by: u16) -> usize
+    requires small { ⌜ size ≤ mostSize ⌝ }
+    requires place { ⌜ offset < size ⌝ }
+    ensures value { λ r. ⌜ r ≡ (offset + by) % size ⌝ }
+    ensures below { λ r. ⌜ r < size ⌝ }
+{
+    (offset + usize::from(by)) % size
+}
+
 // Where a turn leads from a place of its row or column.
 fn landing_of(size: usize, count: usize, offset: usize, turn: Turn) -> u16
     requires small { ⌜ size ≤ mostSize ⌝ }
@@ -25,7 +35,7 @@ fn landing_of(size: usize, count: usize, offset: usize, turn: Turn) -> u16
     requires block { ⌜ turn .block < count ⌝ }
     ensures { λ r. ⌜ r ≡ landing size offset turn ⌝ }
 {
-    (turn.block * size + (offset + usize::from(turn.by)) % size) as u16
+    (turn.block * size + turned(size, offset, turn.by)) as u16
 }
 
 // The list of one check, or of one bit.
