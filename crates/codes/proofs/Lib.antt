@@ -4,5 +4,6 @@ pub mod Firsts
 pub mod Sizes
 pub mod Images
 pub mod Counts
+pub mod Agreeing
 pub mod Places
 pub mod Crossed

@@ -6,4 +6,5 @@ pub mod First
 pub mod Degrees
 pub mod Compact
 pub mod Cross
+pub mod Agree
 pub mod Means

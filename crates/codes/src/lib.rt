@@ -1,5 +1,6 @@
 // Parity-check matrices behind one trait: what every code answers, matrices held as lists, and products.
 mod code;
+mod laws;
 mod limits;
 mod matrix;
 mod product;
@@ -8,6 +9,7 @@ mod side;
 mod table;
 
 pub use code::Code;
+pub use laws::lists_agree;
 pub use limits::MOST_BIT_DEGREE;
 pub use limits::MOST_BITS;
 pub use limits::MOST_CHECK_DEGREE;
