@@ -1,0 +1,4 @@
+pub mod Meaning
+pub mod Kinds
+pub mod Chosen
+pub mod Laws
