@@ -3,7 +3,7 @@ use mathlib.Core.Path.{_≡_, refl, sym, ap, _∙_}
 use mathlib.Core.List.{List, [], _∷_, _++_, append-assoc}
 use Prim.Native.Nat.{ℕ, _+_, max}
 use native.Mathlib.Numerals.{add-one}
-use Rattle.codes.specs.First.{most}
+use Rattle.codes.specs.Most.{most}
 use Rattle.alist.specs.Text.{numberText, numbersText, lineText, linesText}
 
 pub most-more : (f : ℕ → ℕ) (n : ℕ) → most f (n + 1) ≡ max (most f n) (f n)

@@ -10,7 +10,7 @@ use Rattle.std.specs.declared.option.Option.the-variants.{Some, None}
 use Rattle.codes.specs.declared.side.Side.{Side}
 use Rattle.codes.specs.declared.side.Side.the-variants.{ByCheck, ByBit}
 use Rattle.codes.specs.Answers.{Answers}
-use Rattle.codes.specs.First.{most}
+use Rattle.codes.specs.Most.{most}
 
 -- ---- lines of numbers
 -- a number, after a space unless it is the first

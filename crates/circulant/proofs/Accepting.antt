@@ -16,13 +16,14 @@ use Rattle.codes.specs.Answers.{Answers}
 use Rattle.circulant.specs.Circles.{badCell, gridFits, circulantPairs, circulantFault, MadeCirculant}
 use Rattle.codes.specs.Compact.{span, compact}
 use Rattle.codes.specs.Degrees.{wrongCheck, wrongBit, degreeFault}
-use Rattle.codes.specs.First.{first, most, faultAt}
+use Rattle.faults.specs.First.{first, faultAt}
+use Rattle.codes.specs.Most.{most}
 use Rattle.codes.specs.Lawful.{Lawful}
 use Rattle.codes.specs.Limits.{mostInCheck, mostAtBit}
 use Rattle.circulant.specs.Turns.{Rows, noRows, withLists, listOf, majors, minors, Sound, Accepted}
 use Rattle.codes.proofs.Absent.{none-some}
 use Rattle.circulant.proofs.Circling.{sound, side-table}
-use Rattle.codes.proofs.Firsts.{first-none}
+use Rattle.faults.proofs.Firsts.{first-none}
 use Rattle.circulant.proofs.Fitting.{Fitted, fitted}
 use Rattle.circulant.proofs.Held.{starts-many}
 use Rattle.codes.proofs.Limiting.{in-limits}

@@ -22,13 +22,13 @@ use Rattle.codes.specs.declared.side.Side.the-variants.{ByCheck, ByBit}
 use Rattle.circulant.specs.Circles.{shiftOf, cellFits, cellAt, leadsTo, circulantHolds, badCell}
 use Rattle.codes.specs.Compact.{sizeIn, itemAt, placeIn}
 use Rattle.codes.specs.Degrees.{outside}
-use Rattle.codes.specs.First.{first}
+use Rattle.faults.specs.First.{first}
 use Rattle.codes.specs.Lawful.{Lists, Table}
 use Rattle.codes.specs.Pairs.{countBelow}
 use Rattle.circulant.specs.Turns.{majors, minors, cellOf, forward, turnAt, turnCount, turnsBelow, landing, noRows, withLists, listOf, hasAt, degreeAt, Sound}
 use Rattle.codes.proofs.Absent.{same-some}
 use Rattle.codes.proofs.Counts.{lists-count}
-use Rattle.codes.proofs.Firsts.{first-none, first-block, first-no-block}
+use Rattle.faults.proofs.Firsts.{first-none, first-block, first-no-block}
 use Rattle.circulant.proofs.Held.{held-size, held-item, held-none}
 use Rattle.codes.proofs.Images.{lists-image}
 use Rattle.codes.proofs.Places.{quotient, remainder}

@@ -11,7 +11,7 @@ use Rattle.std.specs.declared.option.Option.the-variants.{Some, None}
 use Rattle.faults.specs.Rows.{Row, C}
 use Rattle.codes.specs.Answers.{Answers}
 use Rattle.codes.specs.Degrees.{degreeFault}
-use Rattle.codes.specs.First.{first, faultAt}
+use Rattle.faults.specs.First.{first, faultAt}
 use Rattle.codes.specs.Lawful.{Lawful}
 use Rattle.codes.specs.Limits.{mostSize, sizesFit}
 use Rattle.codes.specs.Pairs.{Pairs}

@@ -8,7 +8,7 @@ ghost use Rattle.std.specs.declared.option.Option.the-variants.{Some};
 ghost use Rattle.faults.specs.Rows.{rowOf, Refused};
 ghost use Rattle.circulant.specs.Circles.{badCell, gridFits, circulantPairs, circulantFault, MadeCirculant};
 ghost use Rattle.codes.specs.Degrees.{outside, degreeFault};
-ghost use Rattle.codes.specs.First.{first};
+ghost use Rattle.faults.specs.First.{first};
 ghost use Rattle.circulant.specs.Means.{circulantOf};
 ghost use Rattle.circulant.specs.Turns.{majors, turnCount, degreeAt, Sound, Gridded, Accepted};
 use expand::expand;

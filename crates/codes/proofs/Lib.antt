@@ -1,6 +1,6 @@
 pub mod Absent
 pub mod Limiting
-pub mod Firsts
+pub mod Mosts
 pub mod Sizes
 pub mod Images
 pub mod Counts

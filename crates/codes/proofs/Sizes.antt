@@ -8,9 +8,9 @@ use lib.ListN.{length}
 use Rattle.std.specs.declared.option.Option.the-variants.{Some, None}
 use Rattle.std.proofs.shelf.Tests.{cases-lt, lt-ltb, le-ltb}
 use Rattle.codes.specs.Compact.{span, sizeIn}
-use Rattle.codes.specs.First.{most}
+use Rattle.codes.specs.Most.{most}
 use Rattle.codes.proofs.Absent.{none-some, same-some}
-use Rattle.codes.proofs.Firsts.{most-le, most-met}
+use Rattle.codes.proofs.Mosts.{most-le, most-met}
 
 pub size-in : (starts : List ℕ) (count c : ℕ) → length starts ≡ count + 1 → c < count → sizeIn starts c ≡ Some (span starts c)
 size-in starts count c many h = let l : 1 < length starts - c = omega arith in rw (lt-ltb 1 (length starts - c) l)

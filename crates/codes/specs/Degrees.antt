@@ -5,7 +5,7 @@ use lib.Dec.{leb}
 use Rattle.std.specs.declared.option.Option.{Option}
 use Rattle.std.specs.declared.option.Option.the-variants.{None}
 use Rattle.faults.specs.Rows.{Row, C}
-use Rattle.codes.specs.First.{first, faultAt}
+use Rattle.faults.specs.First.{first, faultAt}
 use Rattle.codes.specs.Limits.{mostInCheck, mostAtBit}
 use Rattle.codes.specs.Pairs.{Pairs, countBelow}
 

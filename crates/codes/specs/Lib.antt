@@ -2,7 +2,7 @@ pub mod Limits
 pub mod Pairs
 pub mod Answers
 pub mod Lawful
-pub mod First
+pub mod Most
 pub mod Degrees
 pub mod Compact
 pub mod Cross

@@ -8,7 +8,7 @@ use Rattle.codes.specs.declared.table.Table.{Table}
 use Rattle.codes.specs.Answers.{Answers}
 use Rattle.codes.specs.Compact.{span, compact}
 use Rattle.codes.specs.Cross.{cross}
-use Rattle.codes.specs.First.{most}
+use Rattle.codes.specs.Most.{most}
 
 abbrev pub matrixOf : Matrix → Answers
 matrixOf m = compact (vec-items (m .rows .starts)) (vec-items (m .rows .items)) (vec-items (m .columns .starts)) (vec-items (m .columns .items)) (m .widest)

@@ -4,7 +4,7 @@ ghost use Prim.Native.Nat.{_+_, _-_, _<_};
 ghost use lib.ListN.{length};
 ghost use Rattle.std.specs.Of.Vec.{vec-items};
 ghost use Rattle.codes.specs.Compact.{span, sizeIn, itemAt, placeIn};
-ghost use Rattle.codes.specs.First.{most};
+ghost use Rattle.codes.specs.Most.{most};
 
 #[derive(Drop)]
 pub struct Table {

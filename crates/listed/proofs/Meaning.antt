@@ -17,13 +17,14 @@ use Rattle.codes.specs.declared.side.Side.the-variants.{ByCheck, ByBit}
 use Rattle.codes.specs.Answers.{Answers}
 use Rattle.codes.specs.Compact.{span, sizeIn, compact}
 use Rattle.codes.specs.Degrees.{outside, wrongCheck, wrongBit, degreeFault}
-use Rattle.codes.specs.First.{first, most, faultAt}
+use Rattle.faults.specs.First.{first, faultAt}
+use Rattle.codes.specs.Most.{most}
 use Rattle.codes.specs.Lawful.{Lawful}
 use Rattle.codes.specs.Limits.{mostInCheck, mostAtBit}
 use Rattle.listed.specs.Listing.{wrongCount, listFault, listedPairs, MadeListed, Starts}
 use Rattle.listed.specs.Order.{blank, majorOf, minorOf, samePair, hasPair, missingAt, countIn, codeOf, Sorted}
 use Rattle.codes.proofs.Counts.{count-same}
-use Rattle.codes.proofs.Firsts.{first-none, first-same}
+use Rattle.faults.proofs.Firsts.{first-none, first-same}
 use Rattle.codes.proofs.Limiting.{in-limits}
 use Rattle.codes.proofs.Sizes.{widest-most, widest-met}
 use Rattle.listed.proofs.Searched.{has-here, has-where}

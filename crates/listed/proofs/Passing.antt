@@ -14,7 +14,7 @@ use Rattle.codes.specs.declared.side.Side.{Side}
 use Rattle.codes.specs.declared.side.Side.the-variants.{ByCheck, ByBit}
 use Rattle.codes.specs.Limits.{mostBits, mostChecks, sizesFit}
 use Rattle.codes.specs.Degrees.{wrongCheck, wrongBit, degreeFault}
-use Rattle.codes.specs.First.{first, faultAt, orFault}
+use Rattle.faults.specs.First.{first, faultAt, orFault}
 use Rattle.listed.specs.Order.{badAt, missingAt, Sorted}
 use Rattle.listed.specs.Listing.{listedPairs, mismatchFault, listFault}
 use Rattle.codes.proofs.Absent.{none-some}

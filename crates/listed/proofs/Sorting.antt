@@ -13,9 +13,9 @@ use Rattle.listed.specs.declared.pair.Pair.{Pair}
 use Rattle.codes.specs.declared.side.Side.{Side}
 use Rattle.codes.specs.declared.side.Side.the-variants.{ByCheck, ByBit}
 use Rattle.codes.specs.Limits.{stride}
-use Rattle.codes.specs.First.{first}
+use Rattle.faults.specs.First.{first}
 use Rattle.listed.specs.Order.{blank, majorOf, minorOf, comesBefore, badAt, codeOf, Sorted}
-use Rattle.codes.proofs.Firsts.{first-none}
+use Rattle.faults.proofs.Firsts.{first-none}
 
 before-code : (s : Side) (p q : Pair) → minorOf s p < stride → minorOf s q < stride → comesBefore s p q ≡ true → codeOf s p < codeOf s q
 before-code s p q hp hq e =

@@ -13,7 +13,7 @@ use Rattle.codes.specs.declared.side.Side.{Side}
 use Rattle.codes.specs.declared.side.Side.the-variants.{ByCheck, ByBit}
 use Rattle.codes.specs.Answers.{Answers}
 use Rattle.codes.specs.Degrees.{outside, degreeFault}
-use Rattle.codes.specs.First.{first, faultAt, orFault}
+use Rattle.faults.specs.First.{first, faultAt, orFault}
 use Rattle.codes.specs.Lawful.{Lawful}
 use Rattle.codes.specs.Limits.{stride, sizesFit}
 use Rattle.listed.specs.Order.{badAt, hasPair, missingAt, countIn, Parts}

@@ -3,7 +3,7 @@ ghost use mathlib.Core.Path.{_≡_};
 ghost use Prim.Native.Nat.{_+_, _*_, _<_, _≤_};
 ghost use lib.ListN.{length};
 ghost use Rattle.codes.specs.declared.side.Side.the-variants.{ByCheck, ByBit};
-ghost use Rattle.codes.specs.First.{first};
+ghost use Rattle.faults.specs.First.{first};
 ghost use Rattle.codes.specs.Limits.{stride};
 ghost use Rattle.listed.specs.Listing.{wrongCount};
 ghost use Rattle.listed.specs.Order.{majorOf, minorOf, comesBefore, badAt, samePair, hasPair, missingAt, countIn, codeOf, Sorted, Parts};

@@ -1,6 +1,6 @@
 use mathlib.Core.Path.{sym}
 use Rattle.circulant.specs.Circles.{badCell}
-use Rattle.codes.proofs.Firsts.{first-more, first-found}
+use Rattle.faults.proofs.Firsts.{first-more, first-found}
 use Rattle.circulant.proofs.first_bad_cell.Needs as need
 
 pub returns-then-bad-cell : need.returns-then-bad-cell

@@ -1,7 +1,7 @@
 use mathlib.Core.Path.{_≡_}
 use Rattle.std.specs.declared.option.Option.the-variants.{None}
 use Rattle.circulant.specs.Circles.{badCell}
-use Rattle.codes.specs.First.{first}
+use Rattle.faults.specs.First.{first}
 use Rattle.circulant.proofs.first_bad_cell.Given as given
 
 abbrev pub Inv-loop-i : given.InvT-loop-i

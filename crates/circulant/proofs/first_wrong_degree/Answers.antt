@@ -6,7 +6,7 @@ use Rattle.codes.specs.Degrees.{outside}
 use Rattle.circulant.specs.Turns.{majors, turnCount}
 use Rattle.circulant.proofs.Building.{majors-fit}
 use Rattle.circulant.proofs.Circling.{wrong-found, wrong-none}
-use Rattle.codes.proofs.Firsts.{first-more}
+use Rattle.faults.proofs.Firsts.{first-more}
 use Rattle.circulant.proofs.first_wrong_degree.Needs as need
 
 pub mul-result : need.mul-result

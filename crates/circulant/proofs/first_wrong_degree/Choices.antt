@@ -1,7 +1,7 @@
 use mathlib.Core.Path.{_≡_}
 use Rattle.std.specs.declared.option.Option.the-variants.{None}
 use Rattle.codes.specs.Degrees.{outside}
-use Rattle.codes.specs.First.{first}
+use Rattle.faults.specs.First.{first}
 use Rattle.circulant.specs.Turns.{turnCount}
 use Rattle.circulant.proofs.first_wrong_degree.Given as given
 

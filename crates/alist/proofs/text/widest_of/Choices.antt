@@ -1,5 +1,5 @@
 use mathlib.Core.Path.{_≡_}
-use Rattle.codes.specs.First.{most}
+use Rattle.codes.specs.Most.{most}
 use Rattle.alist.specs.Text.{degreeOf}
 use Rattle.alist.proofs.text.widest_of.Given as given
 

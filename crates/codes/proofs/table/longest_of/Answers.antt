@@ -1,5 +1,5 @@
 use Rattle.codes.specs.Compact.{span}
-use Rattle.codes.proofs.Firsts.{most-more}
+use Rattle.codes.proofs.Mosts.{most-more}
 use Rattle.codes.proofs.table.longest_of.Needs as need
 
 pub loop-at-again : need.loop-at-again

@@ -1,5 +1,5 @@
 use mathlib.Core.Path.{_≡_}
-use Rattle.codes.specs.First.{most}
+use Rattle.codes.specs.Most.{most}
 use Rattle.codes.specs.Compact.{span}
 use Rattle.codes.proofs.table.longest_of.Given as given
 

@@ -1,7 +1,7 @@
 use mathlib.Core.Path.{sym, _∙_}
 use native.Mathlib.Omega.{arith}
 use Rattle.listed.specs.Order.{badAt}
-use Rattle.codes.proofs.Firsts.{first-more, first-found}
+use Rattle.faults.proofs.Firsts.{first-more, first-found}
 use Rattle.listed.proofs.order.first_bad.Needs as need
 
 pub returns-then-bad-at : need.returns-then-bad-at

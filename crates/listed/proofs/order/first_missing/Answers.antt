@@ -1,7 +1,7 @@
 use mathlib.Core.Path.{sym, ap, _∙_}
 use mathlib.Core.Bool.{not}
 use Rattle.listed.specs.Order.{missingAt}
-use Rattle.codes.proofs.Firsts.{first-more, first-found}
+use Rattle.faults.proofs.Firsts.{first-more, first-found}
 use Rattle.listed.proofs.order.first_missing.Needs as need
 
 pub returns-then-not-has-pair : need.returns-then-not-has-pair

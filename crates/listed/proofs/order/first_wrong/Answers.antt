@@ -1,6 +1,6 @@
 use mathlib.Core.Path.{sym}
 use Rattle.listed.specs.Listing.{wrongCount}
-use Rattle.codes.proofs.Firsts.{first-more, first-found}
+use Rattle.faults.proofs.Firsts.{first-more, first-found}
 use Rattle.listed.proofs.order.first_wrong.Needs as need
 
 pub returns-then-wrong-count : need.returns-then-wrong-count

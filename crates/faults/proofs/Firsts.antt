@@ -1,15 +1,15 @@
--- The least number that passes a test, and the largest value of a function.
+-- The least number that passes a test.
 use mathlib.Core.Path.{_≡_, refl, sym, ap, _∙_}
 use mathlib.Core.Logic.{_⊎_, inl, inr, ⊎-elim}
 use mathlib.Core.Bool.{Bool, true, false, cond}
-use Prim.Native.Nat.{ℕ, zero, suc, max, _+_, _*_, _/_, _<_, _≤_}
+use Prim.Native.Nat.{ℕ, zero, suc, _+_, _*_, _/_, _<_, _≤_}
 use native.Mathlib.Omega.{arith}
 use native.Mathlib.Numerals.{add-one}
 use Rattle.std.specs.declared.option.Option.{Option}
 use Rattle.std.specs.declared.option.Option.the-variants.{Some, None}
 use Rattle.std.proofs.shelf.Bits.{mul-add-lt, div-mul-add, div-below}
 use Rattle.std.proofs.shelf.Tests.{cases-eq, cases-lt}
-use Rattle.codes.specs.First.{orElse, first, most}
+use Rattle.faults.specs.First.{orElse, first}
 
 -- one more that fails
 pub first-more : (t : ℕ → Bool) (n : ℕ) → first t n ≡ None → t n ≡ false → first t (n + 1) ≡ None
@@ -29,9 +29,6 @@ first-found t i (suc n) e f h =
     (λ (same : i ≡ n). let g : first t n ≡ None = rw same at e in let k : t n ≡ true = rw same at f in first-here t n g k ∙ ap Some (sym same))
     (λ (other : i ≡ n → ⊥). first-kept t n i (first-found t i n e f (omega arith)))
     (cases-eq i n)
-
-pub most-more : (f : ℕ → ℕ) (n : ℕ) → most f (n + 1) ≡ max (most f n) (f n)
-most-more f n = rw add-one
 
 or-else-none : (o u : Option ℕ) → orElse o u ≡ None → (o ≡ None) × (u ≡ None)
 or-else-none None u e = (refl, e)
@@ -73,21 +70,3 @@ first-block t u i n size some same h e f =
 
 pub first-no-block : (t u : ℕ → Bool) (n size : ℕ) → 0 < size → ((x : ℕ) → x < n * size → t x ≡ u (x / size)) → first u n ≡ None → first t (n * size) ≡ None
 first-no-block t u n size some same e = block-false t u n size some same e
-
--- the largest value
-pub most-le : (f : ℕ → ℕ) (n i : ℕ) → i < n → f i ≤ most f n
-most-le f zero i h = absurd (omega arith)
-most-le f (suc n) i h =
-    ⊎-elim
-    (λ (same : i ≡ n). let e : f i ≡ f n = ap f same in omega arith)
-    (λ (other : i ≡ n → ⊥). let l = most-le f n i (omega arith) in omega arith)
-    (cases-eq i n)
-
-pub most-met : (f : ℕ → ℕ) (n : ℕ) → (i : ℕ) × (i < suc n) × (f i ≡ most f (suc n))
-most-met f zero = (0, omega arith, omega arith)
-most-met f (suc n) =
-    let r = most-met f n in
-    ⊎-elim
-    (λ (h : f (suc n) < most f (suc n)). (r .0, omega (arith, r .1), omega (arith, r .2)))
-    (λ (h : most f (suc n) ≤ f (suc n)). (suc n, omega arith, omega arith))
-    (cases-lt (f (suc n)) (most f (suc n)))

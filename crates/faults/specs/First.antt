@@ -1,9 +1,9 @@
--- The least number that passes a test, the largest value of a function, and the first fault. Assumes nothing.
+-- The least number that passes a test, and the first of several faults. Assumes nothing.
 use mathlib.Core.Bool.{Bool, cond}
-use Prim.Native.Nat.{ℕ, zero, suc, max}
+use Prim.Native.Nat.{ℕ, zero, suc}
 use Rattle.std.specs.declared.option.Option.{Option}
 use Rattle.std.specs.declared.option.Option.the-variants.{Some, None}
 use Rattle.faults.specs.Rows.{Row}
 
 -- the first that is there
 abbrev pub orElse : Option ℕ → Option ℕ → Option ℕ
@@ -14,11 +14,6 @@ orElse (Some i) o = Some i
 abbrev pub first : (ℕ → Bool) → ℕ → Option ℕ
 first test zero = None
 first test (suc n) = orElse (first test n) (cond (test n) (Some n) None)
-
--- the largest value at the numbers below n
-abbrev pub most : (ℕ → ℕ) → ℕ → ℕ
-most f zero = 0
-most f (suc n) = max (most f n) (f n)
 
 -- the fault at the place that was found, or else the next
 abbrev pub faultAt : (ℕ → Row) → Option ℕ → Option Row → Option Row
