@@ -64,25 +64,25 @@ fn longest_of(starts: &[u32]) -> usize
 
 impl Table {
     // How many lists there are.
-    pub fn count(&self) -> usize
+    pub(crate) fn count(&self) -> usize
         ensures { λ r. ⌜ r ≡ length (vec-items (now (self .entry) .starts)) - 1 ⌝ }
     {
         self.starts.len().saturating_sub(1)
     }
 
-    pub fn size(&self, at: usize) -> Option<usize>
+    pub(crate) fn size(&self, at: usize) -> Option<usize>
         ensures { λ r. ⌜ r ≡ sizeIn (vec-items (now (self .entry) .starts)) at ⌝ }
     {
         size_in(&self.starts, at)
     }
 
-    pub fn item(&self, at: usize, place: usize) -> Option<usize>
+    pub(crate) fn item(&self, at: usize, place: usize) -> Option<usize>
         ensures { λ r. ⌜ r ≡ placeIn (vec-items (now (self .entry) .starts)) (vec-items (now (self .entry) .items)) at place ⌝ }
     {
         place_in(&self.starts, &self.items, at, place)
     }
 
-    pub fn longest(&self) -> usize
+    pub(crate) fn longest(&self) -> usize
         ensures { λ r. ⌜ r ≡ most (span (vec-items (now (self .entry) .starts))) (length (vec-items (now (self .entry) .starts)) - 1) ⌝ }
     {
         longest_of(&self.starts)
