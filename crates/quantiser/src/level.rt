@@ -3,6 +3,7 @@ ghost use mathlib.Core.Path.{_≡_};
 ghost use Prim.Native.Nat.{_≤_};
 ghost use lib.Ieee.{le};
 ghost use Rattle.quantiser.specs.Levels.{boundary, stepsReached, boundsReached, byBounds, magnitude, levelOf};
+ghost use Rattle.quantiser.specs.Limits.{uniformBoundaries, mostLevel};
 use crate::limits::UNIFORM_BOUNDARIES;
 use crate::shape::Boundaries;
 use crate::shape::Shape;
@@ -23,8 +24,8 @@ fn reaches(bound: f32, size: f32) -> bool
 
 // How many boundaries of a step the size reaches.
 fn steps_reached(step: f32, size: f32) -> u8
-    ensures value { λ r. ⌜ r ≡ stepsReached step size 15 ⌝ }
-    ensures few { λ r. ⌜ r ≤ 15 ⌝ }
+    ensures value { λ r. ⌜ r ≡ stepsReached step size uniformBoundaries ⌝ }
+    ensures few { λ r. ⌜ r ≤ uniformBoundaries ⌝ }
 {
     let mut reached = 0;
     for k in 0..UNIFORM_BOUNDARIES {
@@ -48,7 +49,7 @@ fn bounds_reached(bounds: &Boundaries, size: f32) -> u8
 // The magnitude at so many of three boundaries.
 fn by_bounds(reached: u8) -> u8
     ensures value { λ r. ⌜ r ≡ byBounds reached ⌝ }
-    ensures few { λ r. ⌜ r ≤ 31 ⌝ }
+    ensures few { λ r. ⌜ r ≤ mostLevel ⌝ }
 {
     match reached {
         0 => 1,
@@ -60,7 +61,7 @@ fn by_bounds(reached: u8) -> u8
 
 fn magnitude_of(shape: &Shape, size: f32) -> u8
     ensures value { λ r. ⌜ r ≡ magnitude (now (shape .entry)) size ⌝ }
-    ensures few { λ r. ⌜ r ≤ 31 ⌝ }
+    ensures few { λ r. ⌜ r ≤ mostLevel ⌝ }
 {
     match shape {
         Shape::Uniform(step) => 2 * steps_reached(*step, size) + 1,
