@@ -50,7 +50,7 @@ pub(crate) fn bounded(rt: &LibcRuntime) -> Result<(), AnyError> {
     )
 }
 
-// Zeros, infinities and subnormals.
+// Zeros, infinities and subnormals; and a NaN, which passes no comparison.
 pub(crate) fn far_and_near(rt: &LibcRuntime) -> Result<(), AnyError> {
     let samples = [
         0.0,
@@ -61,6 +61,7 @@ pub(crate) fn far_and_near(rt: &LibcRuntime) -> Result<(), AnyError> {
         -LEAST,
         LARGEST_SUBNORMAL,
         -LARGEST_SUBNORMAL,
+        f32::NAN,
     ];
     let quarter = Quantiser::uniform(0.25)?;
     show(rt, "step 0.25", &quarter, &samples)?;
