@@ -1,0 +1,5 @@
+pub mod Limits
+pub mod Shapes
+pub mod Levels
+pub mod Runs
+pub mod Laws

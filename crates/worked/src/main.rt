@@ -1,0 +1,17 @@
+// Worked examples of the link decoder's layers, a line for each, and a function for each group.
+use std::error::AnyError;
+
+mod quantising;
+
+fn run(rt: &LibcRuntime) -> Result<(), AnyError> {
+    quantising::uniform(rt)?;
+    quantising::bounded(rt)?;
+    quantising::far_and_near(rt)?;
+    quantising::steps(rt)?;
+    quantising::boundaries(rt)?;
+    quantising::many(rt)
+}
+
+fn main(rt: LibcRuntime) -> Result<(), AnyError> {
+    rt.report(run(&rt))
+}
