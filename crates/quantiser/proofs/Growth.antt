@@ -6,12 +6,15 @@ use native.Mathlib.Omega.{arith}
 use lib.Dec.{T}
 use lib.IntN.{natAbs}
 use lib.Ieee.{Float, le, lt}
+use lib.Ieee.Positive.{above}
 use Rattle.quantiser.specs.declared.shape.Shape.{Shape}
 use Rattle.quantiser.specs.declared.shape.Shape.the-variants.{Uniform, Bounded}
 use Rattle.quantiser.specs.Laws.{NeverShrinks}
 use Rattle.quantiser.specs.Levels.{sizeOf, signed, boundary, stepsReached, boundsReached, one, byBounds, magnitude}
 use Rattle.quantiser.specs.Limits.{plusZero, uniformBoundaries}
-use Rattle.quantiser.proofs.Order.{passes, le-trans}
+use Rattle.quantiser.specs.Shapes.{isStep, isAllowed}
+use Rattle.quantiser.proofs.Above.{passes, above-trans, bounds-above}
+use Rattle.quantiser.proofs.Steps.{boundary-above}
 
 one-grows : (a b : Bool) → (T a → T b) → one a ≤ one b
 one-grows true true h = omega arith
@@ -36,17 +39,18 @@ table-grows (suc (suc (suc i))) (suc (suc (suc j))) h = omega arith
 
 module _ (x y : Float) (h : T (le x y)) where
   -- a boundary that x reaches, y reaches
-  reach-grows : (b : Float) → one (le b x) ≤ one (le b y)
-  reach-grows b = one-grows (le b x) (le b y) (λ p. le-trans b x y p h)
+  reach-grows : (b : Float) → T (above b) → one (le b x) ≤ one (le b y)
+  reach-grows b a = one-grows (le b x) (le b y) (λ p. above-trans b x y a p h)
 
-  steps-grow : (s : Float) (k : ℕ) → stepsReached s x k ≤ stepsReached s y k
-  steps-grow s zero = omega arith
-  steps-grow s (suc k) = omega (arith, steps-grow s k, reach-grows (boundary s (suc k)))
+  steps-grow : (s : Float) → isStep s ≡ true → (k : ℕ) → k ≤ uniformBoundaries → stepsReached s x k ≤ stepsReached s y k
+  steps-grow s ok zero l = omega arith
+  steps-grow s ok (suc k) l = omega (arith, steps-grow s ok k (omega arith), reach-grows (boundary s (suc k)) (boundary-above s (suc k) ok (omega arith) l))
 
-  magnitude-grows : (q : Shape) → magnitude q x ≤ magnitude q y
-  magnitude-grows (Uniform s) = omega (arith, steps-grow s uniformBoundaries)
-  magnitude-grows (Bounded v) =
-      table-grows (boundsReached v x) (boundsReached v y) (omega (arith, reach-grows (v .a), reach-grows (v .b), reach-grows (v .c)))
+  magnitude-grows : (q : Shape) → isAllowed q ≡ true → magnitude q x ≤ magnitude q y
+  magnitude-grows (Uniform s) ok = omega (arith, steps-grow s ok uniformBoundaries (omega arith))
+  magnitude-grows (Bounded v) ok =
+      let p = bounds-above v ok in
+      table-grows (boundsReached v x) (boundsReached v y) (omega (arith, reach-grows (v .a) (p .0), reach-grows (v .b) (p .1), reach-grows (v .c) (p .2)))
 
 size-of-signed : (t : Bool) (n : ℕ) → natAbs (signed t n) ≡ n
 size-of-signed true zero = refl
@@ -55,7 +59,7 @@ size-of-signed false n = refl
 
 pub never-shrinks : NeverShrinks
 never-shrinks q x y h =
-    let g = magnitude-grows (sizeOf x) (sizeOf y) (passes _ h) (q .shape) in
+    let g = magnitude-grows (sizeOf x) (sizeOf y) (passes _ h) (q .shape) (q .ok) in
     rw (
       size-of-signed (lt x plusZero) (magnitude (q .shape) (sizeOf x)),
       size-of-signed (lt y plusZero) (magnitude (q .shape) (sizeOf y)),

@@ -1,7 +1,6 @@
 pub mod Counts
-pub mod Firsts
 pub mod Growth
-pub mod Order
+pub mod Above
 pub mod Signs
 pub mod Steps
 pub mod Zeros

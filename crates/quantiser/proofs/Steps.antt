@@ -1,19 +1,19 @@
 -- The limits as numbers; the boundaries of an allowed step are above zero and never fall.
 use mathlib.Core.Path.{_≡_, refl}
-use mathlib.Core.Bool.{true, not}
+use mathlib.Core.Bool.{true}
 use Prim.Native.Nat.{ℕ, _≤_}
 use native.Mathlib.Omega.{arith}
 use lib.Dec.{T}
 use lib.IntN.{pos}
-use lib.Ieee.{Float, nan, inf, fin, binary32, lt, le, mul, ofInt, ofBits, isNan}
+use lib.Ieee.{Float, binary32, le, mul, ofInt, ofBits}
 use lib.Ieee.Order.{round-mono}
-use lib.Ieee.Positive.{positive, between, mul-mono}
+use lib.Ieee.Positive.{positive, above, above-of-le, between, mul-mono}
 use Rattle.std.proofs.shelf.Tests.{and-parts}
 use Rattle.quantiser.specs.Laws.{LimitsAre, NeverFall}
 use Rattle.quantiser.specs.Levels.{boundary}
-use Rattle.quantiser.specs.Limits.{plusZero, leastStep, mostStep, uniformBoundaries}
+use Rattle.quantiser.specs.Limits.{leastStep, mostStep, uniformBoundaries}
 use Rattle.quantiser.specs.Shapes.{isStep}
-use Rattle.quantiser.proofs.Order.{passes, true-of, lt-of-lt-of-le, le-refl}
+use Rattle.quantiser.proofs.Above.{passes, true-of, positive-le}
 
 pub limits-are : LimitsAre
 unfolding ofBits
@@ -41,27 +41,21 @@ boundary-le : (s t : Float) (j k : ℕ) → T (positive s) → T (positive t) �
 boundary-le s t j k p q l a b c =
     mul-mono binary32 (whole j) (whole k) s t (whole-positive j a (omega arith)) (whole-positive k (omega arith) c) p q (whole-le j k b) l
 
-number : (s : Float) → T (positive s) → T (not (isNan s))
-unfolding isNan
-number nan p = absurd p
-number (inf s) p = absurd p
-number (fin s m e) p = tt
-
 pub never-fall : NeverFall
 never-fall s j k h a b c =
     let p = step-positive s h in
-    true-of _ (boundary-le s s j k (p .0) (p .0) (le-refl s (number s (p .0))) a b c)
+    true-of _ (boundary-le s s j k (p .0) (p .0) (positive-le s (p .0)) a b c)
 
 -- the very first boundary
-first-above : T (lt plusZero (boundary leastStep 1))
-unfolding ofBits mul ofInt lt
-first-above = tt
+first-positive : T (positive (boundary leastStep 1))
+unfolding ofBits mul ofInt
+first-positive = tt
 
 least-positive : T (positive leastStep)
 unfolding ofBits
 least-positive = tt
 
-pub boundary-above : (s : Float) (k : ℕ) → isStep s ≡ true → 1 ≤ k → k ≤ uniformBoundaries → T (lt plusZero (boundary s k))
+pub boundary-above : (s : Float) (k : ℕ) → isStep s ≡ true → 1 ≤ k → k ≤ uniformBoundaries → T (above (boundary s k))
 boundary-above s k h a b =
     let p = step-positive s h in
-    lt-of-lt-of-le plusZero (boundary leastStep 1) (boundary s k) first-above (boundary-le leastStep s 1 k least-positive (p .0) (p .1) (omega arith) a b)
+    above-of-le (boundary leastStep 1) (boundary s k) first-positive (boundary-le leastStep s 1 k least-positive (p .0) (p .1) (omega arith) a b)

@@ -1,37 +1,34 @@
 -- Either zero has the level 1.
 use mathlib.Core.Path.{_≡_, refl, sym, ap, _∙_}
-use mathlib.Core.Bool.{Bool, true, false, _&&_, true≢false}
+use mathlib.Core.Bool.{Bool, true, false, true≢false}
 use mathlib.Core.Logic.{inl, inr}
 use Prim.Native.Nat.{ℕ, zero, suc, _+_, _*_, _≤_}
+use native.Mathlib.Nat.{mul-pos}
 use native.Mathlib.Omega.{arith}
-use lib.Dec.{T, eqb}
+use lib.Dec.{T, eqb, ltb→lt}
 use lib.IntN.{pos}
 use lib.Ieee.{Float, nan, inf, fin, up, down, lt, le, eq, ofBits}
+use lib.Ieee.Fits.{up-pos}
+use lib.Ieee.Positive.{above}
 use Rattle.std.specs.Floats.{withSign}
 use Rattle.std.proofs.shelf.Tests.{and-parts, cases-bool, eqb-true, le-ltb}
-use Rattle.quantiser.specs.declared.shape.Boundaries.{Boundaries}
 use Rattle.quantiser.specs.declared.shape.Shape.{Shape}
 use Rattle.quantiser.specs.declared.shape.Shape.the-variants.{Uniform, Bounded}
 use Rattle.quantiser.specs.Laws.{ZeroIsOne}
 use Rattle.quantiser.specs.Levels.{sizeOf, signed, boundary, stepsReached, one, magnitude}
-use Rattle.quantiser.specs.Limits.{plusZero, mostBoundary, uniformBoundaries}
-use Rattle.quantiser.specs.Shapes.{isStep, isRising, isAllowed}
-use Rattle.quantiser.proofs.Order.{passes, true-of, le-of-lt, lt-of-lt-of-le}
+use Rattle.quantiser.specs.Limits.{plusZero, uniformBoundaries}
+use Rattle.quantiser.specs.Shapes.{isStep, isAllowed}
+use Rattle.quantiser.proofs.Above.{passes, above-le, bounds-above}
 use Rattle.quantiser.proofs.Steps.{boundary-above}
 
-rises : (v : Boundaries) → isRising v ≡ true → (lt plusZero (v .a) ≡ true) × (lt (v .a) (v .b) ≡ true) × (lt (v .b) (v .c) ≡ true)
-rises v ok =
-    let p = and-parts (lt plusZero (v .a)) (lt (v .a) (v .b) && (lt (v .b) (v .c) && le (v .c) mostBoundary)) ok in
-    let q = and-parts (lt (v .a) (v .b)) (lt (v .b) (v .c) && le (v .c) mostBoundary) (p .1) in
-    (p .0, q .0, and-parts (lt (v .b) (v .c)) (le (v .c) mostBoundary) (q .1) .0)
-
-not-above : (x : Float) → eq x plusZero ≡ true → T (lt plusZero (sizeOf x)) → ⊥
-unfolding eq lt ofBits withSign
+not-above : (x : Float) → eq x plusZero ≡ true → T (above (sizeOf x)) → ⊥
+unfolding eq ofBits withSign
 not-above nan h t = true≢false (sym h)
 not-above (inf s) h t = true≢false (sym h)
 not-above (fin s m e) h t =
     let z : m * up e * 1 ≡ 0 * 1 * down e = eqb-true _ _ (and-parts _ _ h .0) in
-    true≢false (sym (true-of _ t) ∙ le-ltb (0 * 1 * down e) (m * up e * 1) (omega arith))
+    let l = mul-pos (ltb→lt 0 m t) (up-pos e) in
+    omega (arith, l)
 
 not-below : (x : Float) → eq x plusZero ≡ true → lt x plusZero ≡ false
 unfolding eq lt ofBits
@@ -46,10 +43,10 @@ not-below (fin false m e) h =
 
 module _ (x : Float) (z : eq x plusZero ≡ true) where
   -- a zero reaches no boundary above zero
-  unreached : (b : Float) → T (lt plusZero b) → le b (sizeOf x) ≡ false
+  unreached : (b : Float) → T (above b) → le b (sizeOf x) ≡ false
   unreached b h =
       elim (cases-bool (le b (sizeOf x))) [
-        | inl t ↦ absurd (not-above x z (lt-of-lt-of-le plusZero b (sizeOf x) h (passes _ t)))
+        | inl t ↦ absurd (not-above x z (above-le b (sizeOf x) h (passes _ t)))
         | inr f ↦ f
       ]
 
@@ -63,13 +60,10 @@ module _ (x : Float) (z : eq x plusZero ≡ true) where
   least : (q : Shape) → isAllowed q ≡ true → magnitude q (sizeOf x) ≡ 1
   least (Uniform s) h = let e = none s h uniformBoundaries (omega arith) in omega arith
   least (Bounded v) h =
-      let p = rises v h in
-      let pa = passes _ (p .0) in
-      let pb = lt-of-lt-of-le plusZero (v .a) (v .b) pa (le-of-lt (v .a) (v .b) (passes _ (p .1))) in
-      let pc = lt-of-lt-of-le plusZero (v .b) (v .c) pb (le-of-lt (v .b) (v .c) (passes _ (p .2))) in
-      let ea = unreached (v .a) pa in
-      let eb = unreached (v .b) pb in
-      let ec = unreached (v .c) pc in
+      let p = bounds-above v h in
+      let ea = unreached (v .a) (p .0) in
+      let eb = unreached (v .b) (p .1) in
+      let ec = unreached (v .c) (p .2) in
       simp (ea, eb, ec)
 
 pub zero-is-one : ZeroIsOne
