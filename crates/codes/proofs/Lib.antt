@@ -5,5 +5,6 @@ pub mod Sizes
 pub mod Images
 pub mod Counts
 pub mod Agreeing
+pub mod Parity
 pub mod Places
 pub mod Crossed

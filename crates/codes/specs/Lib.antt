@@ -7,4 +7,5 @@ pub mod Degrees
 pub mod Compact
 pub mod Cross
 pub mod Agree
+pub mod Linear
 pub mod Means

@@ -9,6 +9,7 @@ mod side;
 mod table;
 
 pub use code::Code;
+pub use laws::codewords_add;
 pub use laws::lists_agree;
 pub use limits::MOST_BIT_DEGREE;
 pub use limits::MOST_BITS;

@@ -89,7 +89,7 @@ impl Fault {
         }
     }
 
-    // The letter of the layer that refused.
+    // Which layer refused, as its letter.
     pub fn layer(&self) -> char
         ensures { λ r. ⌜ r ≡ rowOf (now (self .entry)) .layer ⌝ }
     {
