@@ -1,6 +1,8 @@
 // Worked examples of the link decoder's layers, a line for each, and a function for each group.
 use std::error::AnyError;
 
+mod choosing;
+mod making;
 mod quantising;
 
 fn run(rt: &LibcRuntime) -> Result<(), AnyError> {
@@ -9,7 +11,10 @@ fn run(rt: &LibcRuntime) -> Result<(), AnyError> {
     quantising::far_and_near(rt)?;
     quantising::steps(rt)?;
     quantising::boundaries(rt)?;
-    quantising::many(rt)
+    quantising::many(rt)?;
+    choosing::sources(rt)?;
+    choosing::refusals(rt)?;
+    choosing::choices(rt)
 }
 
 fn main(rt: LibcRuntime) -> Result<(), AnyError> {

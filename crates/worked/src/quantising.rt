@@ -1,5 +1,5 @@
 // From samples to levels, and what is refused on the way.
-use faults::Fault;
+use crate::making::show_made;
 use faults::FaultDisplay;
 use faults::FaultError;
 use quantiser::LEAST_STEP;
@@ -74,14 +74,6 @@ pub(crate) fn far_and_near(rt: &LibcRuntime) -> Result<(), AnyError> {
     )
 }
 
-fn show_made(rt: &LibcRuntime, made: Result<Quantiser, Fault>) -> Result<(), AnyError> {
-    match made {
-        Ok(_) => println!(rt, "made")?,
-        Err(fault) => println!(rt, "{fault}")?,
-    }
-    Ok(())
-}
-
 // The ends of the range of steps, and their neighbours outside.
 pub(crate) fn steps(rt: &LibcRuntime) -> Result<(), AnyError> {
     let ends = [
@@ -94,7 +86,7 @@ pub(crate) fn steps(rt: &LibcRuntime) -> Result<(), AnyError> {
         f32::NAN,
     ];
     for step in &ends {
-        print!(rt, "step {step:?}: ")?;
+        print!(rt, "step {step:?}")?;
         show_made(rt, Quantiser::uniform(*step))?;
     }
     Ok(())
@@ -111,7 +103,7 @@ pub(crate) fn boundaries(rt: &LibcRuntime) -> Result<(), AnyError> {
         [1.0, f32::NAN, 2.0],
     ];
     for [a, b, c] in &triples {
-        print!(rt, "boundaries {a:?}, {b:?}, {c:?}: ")?;
+        print!(rt, "boundaries {a:?}, {b:?}, {c:?}")?;
         show_made(rt, Quantiser::bounded(*a, *b, *c))?;
     }
     Ok(())
