@@ -1,0 +1,5 @@
+pub mod Sums
+pub mod Even
+pub mod FlipLaw
+pub mod Mirrored
+pub mod Bounding

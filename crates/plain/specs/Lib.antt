@@ -1,0 +1,4 @@
+pub mod Scores
+pub mod Turning
+pub mod Mirror
+pub mod Bounds

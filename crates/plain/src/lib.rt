@@ -1,0 +1,21 @@
+// The plain machine: what a frame is, as mathematics, and its laws.
+ghost use Rattle.plain.specs.Bounds.{Bounds-law};
+ghost use Rattle.plain.specs.Mirror.{Mirror-law, Openings-mirror};
+ghost use Rattle.plain.specs.Turning.{Flip-law};
+
+// What a flip does to signs, scores and the objective.
+pub fn flip_law()
+    ensures { λ _. ⌜ Flip-law ⌝ }
+{}
+
+// A frame and its mirror image at a codeword's ones have the same signs, scores and objective, from
+// the opening on.
+pub fn mirror_law()
+    ensures same { λ _. ⌜ Mirror-law ⌝ }
+    ensures opening { λ _. ⌜ Openings-mirror ⌝ }
+{}
+
+// No score is further from 0 than 31 + 16 × 16, and no objective than 31 × n + 16 × m.
+pub fn bounds_law()
+    ensures { λ _. ⌜ Bounds-law ⌝ }
+{}
