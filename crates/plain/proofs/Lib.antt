@@ -3,3 +3,5 @@ pub mod Even
 pub mod FlipLaw
 pub mod Mirrored
 pub mod Bounding
+pub mod Gaining
+pub mod Ending

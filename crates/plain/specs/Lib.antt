@@ -2,3 +2,5 @@ pub mod Scores
 pub mod Turning
 pub mod Mirror
 pub mod Bounds
+pub mod Machine
+pub mod Laws

@@ -1,7 +1,14 @@
 // The plain machine: what a frame is, as mathematics, and its laws.
 ghost use Rattle.plain.specs.Bounds.{Bounds-law};
+ghost use Rattle.plain.specs.Laws.{Gain-law, Verdict-law};
 ghost use Rattle.plain.specs.Mirror.{Mirror-law, Openings-mirror};
 ghost use Rattle.plain.specs.Turning.{Flip-law};
+
+mod call;
+
+pub use call::Answer;
+pub use call::Call;
+pub use call::Verdict;
 
 // What a flip does to signs, scores and the objective.
 pub fn flip_law()
@@ -18,4 +25,16 @@ pub fn mirror_law()
 // No score is further from 0 than 31 + 16 × 16, and no objective than 31 × n + 16 × m.
 pub fn bounds_law()
     ensures { λ _. ⌜ Bounds-law ⌝ }
+{}
+
+// After every run, the objective's gain is minus twice the sum of the flips' scores, for a rule of
+// any type of states.
+pub fn gain_law<S>()
+    ensures { λ _. ⌜ Gain-law S ⌝ }
+{}
+
+// After every run, a decode ends, and answers decoded exactly at a codeword and spent only at the
+// limit, for a rule of any type of states.
+pub fn verdict_law<S>()
+    ensures { λ _. ⌜ Verdict-law S ⌝ }
 {}
