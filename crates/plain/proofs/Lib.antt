@@ -5,3 +5,4 @@ pub mod Mirrored
 pub mod Bounding
 pub mod Gaining
 pub mod Ending
+pub mod Imaging

@@ -72,7 +72,7 @@ mirror-law s z d word =
     }
 
 -- the sign of a level that is not 0, and of its negation
-sign-turned : (z : Bool) (y : ℤ) → (y ≡ pos 0 → ⊥) → ltZ (cond z (negℤ y) y) (pos 0) ≡ cond z (not (ltZ y (pos 0))) (ltZ y (pos 0))
+pub sign-turned : (z : Bool) (y : ℤ) → (y ≡ pos 0 → ⊥) → ltZ (cond z (negℤ y) y) (pos 0) ≡ cond z (not (ltZ y (pos 0))) (ltZ y (pos 0))
 sign-turned false y ne = refl
 sign-turned true (pos zero) ne = absurd (ne refl)
 sign-turned true (pos (suc n)) ne = grind (arith, ints)

@@ -4,3 +4,4 @@ pub mod Mirror
 pub mod Bounds
 pub mod Machine
 pub mod Laws
+pub mod Symmetry

@@ -2,6 +2,7 @@
 ghost use Rattle.plain.specs.Bounds.{Bounds-law};
 ghost use Rattle.plain.specs.Laws.{Gain-law, Verdict-law};
 ghost use Rattle.plain.specs.Mirror.{Mirror-law, Openings-mirror};
+ghost use Rattle.plain.specs.Symmetry.{Symmetry-law};
 ghost use Rattle.plain.specs.Turning.{Flip-law};
 
 mod call;
@@ -37,4 +38,10 @@ pub fn gain_law<S>()
 // limit, for a rule of any type of states.
 pub fn verdict_law<S>()
     ensures { λ _. ⌜ Verdict-law S ⌝ }
+{}
+
+// A frame and its image under a codeword answer every list of calls alike, but that packed digits
+// differ exactly at the codeword's ones, for rules of any two types of states.
+pub fn symmetry_law<S, T>()
+    ensures { λ _. ⌜ Symmetry-law S T ⌝ }
 {}
