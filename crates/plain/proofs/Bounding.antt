@@ -8,6 +8,7 @@ use lib.IntN.{ℤ, pos, negℤ, _+ℤ_}
 use Rattle.std.proofs.shelf.Signed.{ints}
 use Rattle.codes.specs.Limits.{mostAtBit}
 use Rattle.codes.specs.Pairs.{countBelow}
+use Rattle.noise.specs.Sources.{mostAmplitude}
 use Rattle.plain.specs.Bounds.{mostLevel, mostWeight, Within, Modest, Bounded, Bounds-law}
 use Rattle.plain.specs.Scores.{Setting, sumBelow, scoreOf, objectiveOf}
 use Rattle.plain.proofs.Even.{metOf, signed, own, voice, heard, scoreBy, objectiveBy, score-is, objective-is}
@@ -57,4 +58,4 @@ module _ (s : Setting) (digit : ℕ → Bool) (ok : Modest s) where
       (sum-within mostWeight (s .code .checks) (voice s met) (λ c l. signed-within mostWeight (met c) (pos (s .weight c)) (weight-within (s .weight c) (ok .weights c l)))))
 
 pub bounds-law : Bounds-law
-bounds-law s digit ok = record { scores = score-within s digit ok; objective = objective-within s digit ok }
+bounds-law s digit ok = record { scores = score-within s digit ok; perturbed = λ noise law r k h. added (mostLevel + mostWeight * mostAtBit) mostAmplitude (scoreOf s digit k) (noise r k) (score-within s digit ok k h) (record { low = law .low r k; high = law .high r k }); objective = objective-within s digit ok }

@@ -1,10 +1,11 @@
 -- How large scores and objectives can be, within the limits. Assumes nothing.
 use mathlib.Core.Bool.{Bool}
 use Prim.Native.Nat.{ℕ, _+_, _*_, _<_, _≤_}
-use lib.IntN.{ℤ, pos, negℤ}
+use lib.IntN.{ℤ, pos, negℤ, _+ℤ_}
 use lib.Signed.{_≤ℤ_}
 use Rattle.codes.specs.Limits.{mostAtBit}
 use Rattle.codes.specs.Pairs.{countBelow}
+use Rattle.noise.specs.Sources.{Lawful, mostAmplitude}
 use Rattle.plain.specs.Scores.{Setting, scoreOf, objectiveOf}
 
 -- the largest magnitude of a level, and the largest weight
@@ -27,6 +28,7 @@ pub record Modest (s : Setting) : Type 0 where
 
 pub record Bounded (s : Setting) (digit : ℕ → Bool) : Type 0 where
   pub scores : (k : ℕ) → k < s .code .bits → Within (mostLevel + mostWeight * mostAtBit) (scoreOf s digit k)
+  pub perturbed : (noise : ℕ → ℕ → ℤ) → Lawful noise → (r k : ℕ) → k < s .code .bits → Within (mostLevel + mostWeight * mostAtBit + mostAmplitude) (scoreOf s digit k +ℤ noise r k)
   pub objective : Within (mostLevel * s .code .bits + mostWeight * s .code .checks) (objectiveOf s digit)
 
 abbrev pub Bounds-law : Type 0

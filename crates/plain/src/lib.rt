@@ -23,7 +23,8 @@ pub fn mirror_law()
     ensures opening { λ _. ⌜ Openings-mirror ⌝ }
 {}
 
-// No score is further from 0 than 31 + 16 × 16, and no objective than 31 × n + 16 × m.
+// No score is further from 0 than 31 + 16 × 16, no perturbed one by more than 255 further, and no
+// objective than 31 × n + 16 × m.
 pub fn bounds_law()
     ensures { λ _. ⌜ Bounds-law ⌝ }
 {}
