@@ -13,7 +13,7 @@ use Rattle.std.proofs.shelf.Tests.{cases-eq, cases-bool, eqb-true, leb-true, le
 use Rattle.codes.specs.Pairs.{Pairs, countBelow, onesIn, Codeword}
 use Rattle.codes.proofs.Counts.{count-same, count-none}
 use Rattle.plain.specs.declared.call.Answer.{Answer}
-use Rattle.plain.specs.declared.call.Answer.the-variants.{Stopped, Ended}
+use Rattle.plain.specs.declared.call.Answer.the-variants.{Stopped, Flipped, Ended}
 use Rattle.plain.specs.declared.call.Call.{Call}
 use Rattle.plain.specs.declared.call.Call.the-variants.{Round, Decode, Toggle, Weigh, Unmet, Read}
 use Rattle.plain.specs.declared.call.Verdict.the-variants.{Decoded, Spent}
@@ -115,12 +115,42 @@ module _ {S : Type 0} (f : Frame S) where
   still-round : (s : State S) → stops f s ≡ true → step f Round s ≡ answers-with (Stopped (verdictOf f s)) s
   still-round s e = rw e
 
+  -- a round's answer, by whether all checks are met, and whether the limit is reached
+  abbrev roundSays : Bool → Bool → ℕ → Answer (List ℕ)
+  roundSays met late n = cond (met || late) (Stopped (cond met Decoded Spent)) (Flipped n)
+
+  says-met : (met late : Bool) (n : ℕ) → roundSays met late n ≡ Stopped Decoded → met ≡ true
+  says-met true late n e = refl
+  says-met false true n e = let z : _≡_ {A = ℕ} 0 1 = cc in absurd (omega arith)
+  says-met false false n e = let z : _≡_ {A = ℕ} 0 1 = cc in absurd (omega arith)
+
+  says-late : (met late : Bool) (n : ℕ) → roundSays met late n ≡ Stopped Spent → late ≡ true
+  says-late met true n e = refl
+  says-late true false n e = let z : _≡_ {A = ℕ} 0 1 = cc in absurd (omega arith)
+  says-late false false n e = let z : _≡_ {A = ℕ} 0 1 = cc in absurd (omega arith)
+
+  round-says : (s : State S) → step f Round s .answer ≡ roundSays (allMet f s) (leb (f .limit) (s .rounds)) (countBelow (f .setting .code .bits) (picks f s))
+  round-says s = said (stops f s) (answers-with (Stopped (verdictOf f s)) s) (answers-with (Flipped (countBelow (f .setting .code .bits) (picks f s))) (roundMade f s))
+    where
+      said : (b : Bool) (x y : Step S) → cond b x y .answer ≡ cond b (x .answer) (y .answer)
+      said true x y = refl
+      said false x y = refl
+
+  round-at-word : (s : State S) → allMet f s ≡ true → step f Round s ≡ answers-with (Stopped Decoded) s
+  round-at-word s e = rw e
+
+  late-limit : (s : State S) → Few s → leb (f .limit) (s .rounds) ≡ true → s .rounds ≡ f .limit
+  late-limit s few b = let h = leb-true (f .limit) (s .rounds) b in omega arith
+
   verdicts : (s : State S) → Few s → Verdicts f s
   verdicts s few =
       let t = decoded f (f .limit) s in
       let stop = ends-at (f .limit) s (omega arith) in
       record {
         still = still-round s;
+        round-word = λ w. round-at-word s (word-met s w);
+        round-decoded = λ e. met-word s (says-met (allMet f s) (leb (f .limit) (s .rounds)) _ (sym (round-says s) ∙ e));
+        round-spent = λ e. late-limit s few (says-late (allMet f s) (leb (f .limit) (s .rounds)) _ (sym (round-says s) ∙ e));
         ends = stop;
         word = λ w. ap (λ v. Ended v (t .rounds)) (verdict-met t (word-met t w));
         decoded = λ e. met-word t (met-verdict (allMet f t) (t .rounds) e);

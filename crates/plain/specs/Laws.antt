@@ -21,8 +21,12 @@ Gain-law S = (f : Frame S) (cs : List Call) → objectiveOf (f .setting) (stateA
 
 -- ---- what the verdicts mean
 pub record Verdicts {S : Type 0} (f : Frame S) (s : State S) : Type 0 where
-  -- a round that stops changes nothing, and says decoded exactly at a codeword
+  -- a round that stops changes nothing
   pub still : stops f s ≡ true → step f Round s ≡ answers-with (Stopped (verdictOf f s)) s
+  -- it answers decoded exactly when the digits are a codeword, and spent only otherwise, after as many rounds as the limit
+  pub round-word : Codeword (f .setting .code) (s .digits) → step f Round s ≡ answers-with (Stopped Decoded) s
+  pub round-decoded : step f Round s .answer ≡ Stopped Decoded → Codeword (f .setting .code) (s .digits)
+  pub round-spent : step f Round s .answer ≡ Stopped Spent → s .rounds ≡ f .limit
   -- decode ends where a round would stop
   pub ends : stops f (step f Decode s .state) ≡ true
   -- it answers decoded exactly when the digits then are a codeword
