@@ -21,7 +21,7 @@ use Rattle.plain.specs.Laws.{Verdicts, Verdict-law}
 use Rattle.plain.specs.Machine.{Frame, State, opened, flip, flipSet, picks, roundMade, allMet, stops, verdictOf, decoded, bytesFor, Step, answers-with, step, stateAfter}
 use Rattle.plain.specs.Scores.{signOf}
 use Rattle.plain.proofs.Even.{valueOf, metOf, sign-met, even-count}
-use Rattle.plain.proofs.Gaining.{either}
+use Rattle.plain.proofs.Keeping.{either, Keeps, decode-keeps, run-keeps}
 
 -- ---- met exactly at a codeword
 unmet-value : (e : Bool) → ltZ (valueOf e) (pos 0) ≡ not e
@@ -69,21 +69,8 @@ module _ {S : Type 0} (f : Frame S) where
   few-round : (s : State S) → stops f s ≡ false → Few (roundMade f s)
   few-round s e = let h = goes-on s e in omega arith
 
-  few-decode : (n : ℕ) (s : State S) → Few s → Few (decoded f n s)
-  few-decode zero s h = h
-  few-decode (suc n) s h = either Few (stops f s) _ _ (λ e. h) (λ e. few-decode n (roundMade f s) (few-round s e))
-
-  few-step : (c : Call) (s : State S) → Few s → Few (step f c s .state)
-  few-step Round s h = either (λ (x : Step S). Few (x .state)) (stops f s) _ _ (λ e. h) (λ e. few-round s e)
-  few-step Decode s h = few-decode (f .limit) s h
-  few-step (Toggle k) s h = either (λ (x : Step S). Few (x .state)) (ltb k (f .setting .code .bits)) _ _ (λ e. h) (λ e. h)
-  few-step (Weigh k) s h = either (λ (x : Step S). Few (x .state)) (ltb k (f .setting .code .bits)) _ _ (λ e. h) (λ e. h)
-  few-step Unmet s h = h
-  few-step (Read n) s h = either (λ (x : Step S). Few (x .state)) (eqb n (bytesFor (f .setting .code .bits))) _ _ (λ e. h) (λ e. h)
-
-  few-run : (cs : List Call) (s : State S) → Few s → Few (stateAfter f cs s)
-  few-run [] s h = h
-  few-run (c ∷ cs) s h = few-run cs (step f c s .state) (few-step c s h)
+  few-kept : Keeps f Few
+  few-kept = record { at-flip = λ k s h few. few; at-round = λ s e few. few-round s e }
 
   -- ---- decode ends
   or-right : (a b : Bool) → b ≡ true → (a || b) ≡ true
@@ -157,9 +144,9 @@ module _ {S : Type 0} (f : Frame S) where
         spent = λ no.
             ⊎-elim
             (λ (m : allMet f t ≡ true). absurd (no (met-word t m)))
-            (λ (m : allMet f t ≡ false). ap (λ v. Ended v (t .rounds)) (verdict-unmet t m) ∙ ap (Ended Spent) (spent-at t (few-decode (f .limit) s few) stop m))
+            (λ (m : allMet f t ≡ false). ap (λ v. Ended v (t .rounds)) (verdict-unmet t m) ∙ ap (Ended Spent) (spent-at t (decode-keeps f Few few-kept (f .limit) s few) stop m))
             (cases-bool (allMet f t));
       }
 
 pub verdict-law : (S : Type 0) → Verdict-law S
-verdict-law S f cs = verdicts f (stateAfter f cs (opened f)) (few-run f cs (opened f) (omega arith))
+verdict-law S f cs = verdicts f (stateAfter f cs (opened f)) (run-keeps f (Few f) (few-kept f) cs (opened f) (omega arith))

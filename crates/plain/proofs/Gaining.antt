@@ -4,21 +4,14 @@ use mathlib.Core.Bool.{Bool, true, false, cond, _||_}
 use mathlib.Core.List.{List, [], _∷_}
 use Prim.Native.Nat.{ℕ, zero, suc, _+_, _<_, _≤_}
 use native.Mathlib.Omega.{arith}
-use lib.Dec.{ltb, leb, eqb}
 use lib.IntN.{ℤ, pos, negℤ, _+ℤ_, _-ℤ_, _*ℤ_}
 use Rattle.std.proofs.shelf.Signed.{ints}
-use Rattle.std.proofs.shelf.Tests.{ltb-true}
 use Rattle.plain.specs.declared.call.Call.{Call}
-use Rattle.plain.specs.declared.call.Call.the-variants.{Round, Decode, Toggle, Weigh, Unmet, Read}
 use Rattle.plain.specs.Laws.{sumOf, Gain-law}
 use Rattle.plain.specs.Machine.{Frame, State, opened, flip, flipSet, picks, counted, roundMade, stops, decoded, bytesFor, Step, step, stateAfter}
 use Rattle.plain.specs.Scores.{scoreOf, objectiveOf, openDigit}
 use Rattle.plain.proofs.FlipLaw.{flip-law}
-
--- what holds both ways holds of either
-pub either : {A : Type 0} (P : A → Type 0) (b : Bool) (x y : A) → (b ≡ true → P x) → (b ≡ false → P y) → P (cond b x y)
-either P true x y p q = p refl
-either P false x y p q = q refl
+use Rattle.plain.proofs.Keeping.{either, Keeps, run-keeps}
 
 module _ {S : Type 0} (f : Frame S) where
   abbrev Gained : State S → Type 0
@@ -38,23 +31,10 @@ module _ {S : Type 0} (f : Frame S) where
   gained-round : (s : State S) → Gained s → Gained (roundMade f s)
   gained-round s g = gained-set (picks f s) (f .setting .code .bits) s (omega arith) g
 
-  gained-decode : (n : ℕ) (s : State S) → Gained s → Gained (decoded f n s)
-  gained-decode zero s g = g
-  gained-decode (suc n) s g = either Gained (stops f s) _ _ (λ e. g) (λ e. gained-decode n (roundMade f s) (gained-round s g))
-
-  gained-step : (c : Call) (s : State S) → Gained s → Gained (step f c s .state)
-  gained-step Round s g = either (λ (x : Step S). Gained (x .state)) (stops f s) _ _ (λ e. g) (λ e. gained-round s g)
-  gained-step Decode s g = gained-decode (f .limit) s g
-  gained-step (Toggle k) s g = either (λ (x : Step S). Gained (x .state)) (ltb k (f .setting .code .bits)) _ _ (λ e. gained-flip k s (ltb-true k (f .setting .code .bits) e) g) (λ e. g)
-  gained-step (Weigh k) s g = either (λ (x : Step S). Gained (x .state)) (ltb k (f .setting .code .bits)) _ _ (λ e. g) (λ e. g)
-  gained-step Unmet s g = g
-  gained-step (Read n) s g = either (λ (x : Step S). Gained (x .state)) (eqb n (bytesFor (f .setting .code .bits))) _ _ (λ e. g) (λ e. g)
-
-  gained-run : (cs : List Call) (s : State S) → Gained s → Gained (stateAfter f cs s)
-  gained-run [] s g = g
-  gained-run (c ∷ cs) s g = gained-run cs (step f c s .state) (gained-step c s g)
+  gained-kept : Keeps f Gained
+  gained-kept = record { at-flip = gained-flip; at-round = λ s e g. gained-round s g }
 
 pub gain-law : (S : Type 0) → Gain-law S
 gain-law S f cs =
-    let g = gained-run f cs (opened f) (omega (arith, ints)) in
+    let g = run-keeps f (Gained f) (gained-kept f) cs (opened f) (omega (arith, ints)) in
     omega (arith, ints, g)

@@ -3,6 +3,7 @@ pub mod Even
 pub mod FlipLaw
 pub mod Mirrored
 pub mod Bounding
+pub mod Keeping
 pub mod Gaining
 pub mod Ending
 pub mod Imaging
