@@ -1,3 +1,4 @@
 pub mod Pairs
 pub mod Words
 pub mod Ruled
+pub mod Feeds

@@ -1,2 +1,5 @@
 pub mod Digits
 pub mod Rule
+pub mod Parts
+pub mod Lines
+pub mod Left

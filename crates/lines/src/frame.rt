@@ -9,6 +9,7 @@ ghost use Rattle.std.specs.Results.{Cases};
 ghost use Rattle.std.specs.declared.option.Option.the-variants.{None};
 ghost use Rattle.faults.specs.Rows.{rowOf, Refused};
 ghost use Rattle.lines.specs.Digits.{nibble as nibbleOf, level, worth, badDigit, firstBad as firstBadOf, countFits, frameFault, levelsOf};
+ghost use Rattle.lines.specs.Parts.{bytesOf};
 use crate::digits::nibble;
 use crate::digits::signed;
 use crate::part::Part;
@@ -75,14 +76,15 @@ impl<'a> Part<'a> {
     // The levels of these digits: T3 for the first byte that is no digit, by its place in the input,
     // and then T4 for an odd number of digits, or more than 8,192, with the place of the part.
     pub fn levels(&self, heap: Global) -> Result<Vec<i8>, Fault>
-        ensures { λ r. ⌜ Cases r (λ v. (frameFault (now (self .entry) .at) (now (now (self .entry) .bytes)) ≡ None) × (vec-items v ≡ levelsOf (now (now (self .entry) .bytes)))) (λ e. Refused (frameFault (now (self .entry) .at) (now (now (self .entry) .bytes))) (rowOf e)) ⌝ }
+        ensures { λ r. ⌜ Cases r (λ v. (frameFault (now (self .entry) .from) (bytesOf (now (self .entry))) ≡ None) × (vec-items v ≡ levelsOf (bytesOf (now (self .entry))))) (λ e. Refused (frameFault (now (self .entry) .from) (bytesOf (now (self .entry)))) (rowOf e)) ⌝ }
     {
-        if let Some(i) = first_bad(self.bytes) {
-            return Err(Fault::BadDigit(self.at + i));
+        let digits = self.bytes();
+        if let Some(i) = first_bad(digits) {
+            return Err(Fault::BadDigit(self.from + i));
         }
-        if !count_fits(self.bytes.len()) {
-            return Err(Fault::DigitCount(self.at));
+        if !count_fits(digits.len()) {
+            return Err(Fault::DigitCount(self.from));
         }
-        read_levels(heap, self.bytes)
+        read_levels(heap, digits)
     }
 }

@@ -12,6 +12,7 @@ ghost use Rattle.faults.specs.Rows.{rowOf, T};
 ghost use Rattle.rules.specs.Chosen.{still, meaningOf, stateOf};
 ghost use Rattle.rules.specs.Kinds.{multi, switch};
 ghost use Rattle.rules.specs.declared.mode.Mode.the-variants.{Many};
+ghost use Rattle.lines.specs.Parts.{bytesOf};
 ghost use Rattle.lines.specs.Rule.{after as afterOf, threshold as thresholdOf, ruleLine};
 use crate::digits::nibble;
 use crate::digits::signed;
@@ -81,15 +82,16 @@ fn is_single(line: &[u8]) -> bool
 impl<'a> Part<'a> {
     // The rule that this line means, in its first state, or T2.
     pub fn rule(&self) -> Result<Chosen, Fault>
-        ensures { λ r. ⌜ Cases r (λ c. (ruleLine (now (now (self .entry) .bytes)) ≡ Some (meaningOf c)) × (stateOf c ≡ Many)) (λ e. (ruleLine (now (now (self .entry) .bytes)) ≡ None) × (rowOf e ≡ T 2 0)) ⌝ }
+        ensures { λ r. ⌜ Cases r (λ c. (ruleLine (bytesOf (now (self .entry))) ≡ Some (meaningOf c)) × (stateOf c ≡ Many)) (λ e. (ruleLine (bytesOf (now (self .entry))) ≡ None) × (rowOf e ≡ T 2 0)) ⌝ }
     {
-        if is_single(self.bytes) {
+        let line = self.bytes();
+        if is_single(line) {
             return Ok(Chosen::Single(Single));
         }
-        if let Some(t) = threshold_after(self.bytes, b"multi ") {
+        if let Some(t) = threshold_after(line, b"multi ") {
             return multi_at(t);
         }
-        if let Some(t) = threshold_after(self.bytes, b"switch ") {
+        if let Some(t) = threshold_after(line, b"switch ") {
             return switch_at(t);
         }
         Err(Fault::RuleLine)
