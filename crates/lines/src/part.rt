@@ -31,6 +31,7 @@ impl<'a> Part<'a> {
     pub fn place(&self) -> usize
         ensures { λ r. ⌜ r ≡ now (self .entry) .from ⌝ }
     {
-        self.from
+        let Part { from, .. } = *self;
+        from
     }
 }

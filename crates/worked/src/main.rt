@@ -4,6 +4,7 @@ use std::error::AnyError;
 mod choosing;
 mod making;
 mod quantising;
+mod reading;
 
 fn run(rt: &LibcRuntime) -> Result<(), AnyError> {
     quantising::uniform(rt)?;
@@ -14,7 +15,10 @@ fn run(rt: &LibcRuntime) -> Result<(), AnyError> {
     quantising::many(rt)?;
     choosing::sources(rt)?;
     choosing::refusals(rt)?;
-    choosing::choices(rt)
+    choosing::choices(rt)?;
+    reading::small(rt)?;
+    reading::hostile(rt)?;
+    reading::long(rt)
 }
 
 fn main(rt: LibcRuntime) -> Result<(), AnyError> {
