@@ -1,6 +1,6 @@
 // A part of an input.
 ghost use mathlib.Core.Path.{_≡_};
-ghost use Prim.Native.Nat.{_+_, _<_, _≤_};
+ghost use Prim.Native.Nat.{min, _+_, _<_, _≤_};
 ghost use denote.Ref.{now};
 ghost use lib.ListN.{length};
 ghost use Rattle.lines.specs.Parts.{bytesOf};
@@ -13,13 +13,20 @@ pub struct Part<'a> {
     pub(crate) to: usize,
 }
 
+// Where a part ends, within an input of this size.
+fn end_within(to: usize, size: usize) -> usize
+    ensures { λ r. ⌜ r ≡ min to size ⌝ }
+{
+    to.min(size)
+}
+
 impl<'a> Part<'a> {
     // The bytes of this part.
     pub fn bytes(&self) -> &'a [u8]
         ensures value { λ r. ⌜ now r ≡ bytesOf (now (self .entry)) ⌝ }
         ensures within { λ r. ⌜ (0 < length (now r) → now (self .entry) .from + length (now r) ≤ length (now (now (self .entry) .input))) ⌝ }
     {
-        let end = self.to.min(self.input.len());
+        let end = end_within(self.to, self.input.len());
         if self.from < end {
             &self.input[self.from..end]
         } else {

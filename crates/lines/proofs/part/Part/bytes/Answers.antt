@@ -9,7 +9,7 @@ pub returns-then-self-end : need.returns-then-self-end
 returns-then-self-end c =
     let p = c .args .self .now in
     let xs = p .input .now in
-    let end = c .min-end .result in
+    let end = c .end-within-end .result in
     let d = length-drop (p .from) xs in
     let t = length-take (end - p .from) (drop (p .from) xs) in
     record { value = clipped (p .from) (p .to) end xs (search needs); within = λ h. omega arith }
@@ -17,4 +17,4 @@ returns-then-self-end c =
 pub returns-else-self-end : need.returns-else-self-end
 returns-else-self-end c =
     let p = c .args .self .now in
-    record { value = nothing-there (p .from) (p .to) (c .min-end .result) (p .input .now) (search needs) (search needs); within = λ h. absurd (omega arith) }
+    record { value = nothing-there (p .from) (p .to) (c .end-within-end .result) (p .input .now) (search needs) (search needs); within = λ h. absurd (omega arith) }
