@@ -1,5 +1,6 @@
 // Replays a recorded list of calls on a frame of a circulant code and on its image under a codeword,
 // and tells in what the answers differ.
+#![tactic(auto)]
 
 mod comparing;
 mod given;

@@ -1,4 +1,6 @@
 // Writes the seven-bit code and its product with itself in the alist form.
+#![tactic(auto)]
+
 ghost use Rattle.std.specs.Prelude.{◌≡◌, IfOk};
 ghost use Rattle.codes.specs.Cross.{product_pairs};
 ghost use Rattle.codes.specs.Lawful.{Lawful};

@@ -1,4 +1,6 @@
 // A code that is given as a grid of cells, each empty or a shift of the identity matrix.
+#![tactic(auto)]
+
 ghost use Rattle.std.specs.Prelude.{◌≡◌, ◌*◌, ◌<◌, length, Some, MatchResult};
 ghost use Rattle.std.specs.Option.{option_map};
 ghost use Rattle.faults.specs.Rows.{row_of, Refused};

@@ -1,4 +1,6 @@
 // Parity-check matrices behind one trait: what every code answers, matrices held as lists, and products.
+#![tactic(auto)]
+
 mod code;
 mod laws;
 mod limits;

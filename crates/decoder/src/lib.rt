@@ -1,4 +1,6 @@
 // A frame, and the calls on it.
+#![tactic(auto)]
+
 mod calls;
 mod frame;
 mod opening;

@@ -1,5 +1,7 @@
 // The caller's memory of a frame, a record for each bit and a sign for each check, and what the
 // decoder does to it.
+#![tactic(auto)]
+
 mod bit;
 mod opening;
 mod packing;

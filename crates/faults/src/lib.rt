@@ -1,5 +1,8 @@
 // The one type of refusal: what went wrong, in which layer, and where.
-ghost use Rattle.std.specs.Prelude.{◌≡◌, true, Some};
+#![tactic(auto)]
+
+ghost use Rattle.std.specs.Prelude.{◌≡◌, ◌==◌, true, Some};
+ghost use Rattle.std.specs.Ordering.{eq_of_both, on};
 ghost use Rattle.faults.specs.declared.Fault.TheVariants.{NoMemory};
 ghost use Rattle.faults.specs.Rows.{row_of, printed};
 ghost use Rattle.std.specs.Cmp.Rules.{comparing};
@@ -113,11 +116,14 @@ impl Fault {
 
 // Whether it is the same fault: no two have letter, number and place alike.
 impl PartialEq for Fault {
-    ghost equals = { λ f g r. (r ≡ true → f ≡ g) × (f ≡ g → r ≡ true) };
+    ghost eq = { eq_of_both (on (λ f. (row_of f).layer) ◌==◌) (eq_of_both (on (λ f. (row_of f).number) ◌==◌) (on (λ f. (row_of f).place) ◌==◌)) };
 
     ghost laws = { Prim.search (comparing, rules) };
 
-    fn eq(&self, other: &Fault) -> bool {
+    fn eq(&self, other: &Fault) -> bool
+        ensures value { result ≡ ⟦<Fault as PartialEq>⟧.eq self.now other.now }
+        ensures exact { (result ≡ true → self.now ≡ other.now) × (self.now ≡ other.now → result ≡ true) }
+    {
         self.layer() == other.layer()
             && self.number() == other.number()
             && self.place() == other.place()

@@ -1,4 +1,5 @@
 // Worked examples of frames, and of answers to whole inputs.
+#![tactic(auto)]
 
 mod answering;
 mod framing;

@@ -1,4 +1,6 @@
 // Frames as lines of text: a rule, and then frames in hexadecimal, two digits a level.
+#![tactic(auto)]
+
 mod digits;
 mod frame;
 mod line;

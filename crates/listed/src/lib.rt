@@ -1,4 +1,6 @@
 // A code that is given as its pairs, listed twice.
+#![tactic(auto)]
+
 ghost use Rattle.std.specs.Prelude.{◌≡◌, ◌≤◌, map, IfOk, None, MatchResult};
 ghost use Rattle.std.specs.Option.{option_map};
 ghost use Rattle.faults.specs.Rows.{row_of, Refused};

@@ -1,4 +1,6 @@
 // Noise sources: what is added to the scores of a round.
+#![tactic(auto)]
+
 mod generator;
 mod limits;
 mod silent;

@@ -1,4 +1,6 @@
 // The plain machine: what a frame is, as mathematics, and its laws.
+#![tactic(auto)]
+
 ghost use Rattle.plain.specs.Bounds.{BoundsLaw};
 ghost use Rattle.plain.specs.Laws.{GainLaw, PicksLaw, VerdictLaw};
 ghost use Rattle.plain.specs.Mirror.{MirrorLaw, OpeningsMirror};

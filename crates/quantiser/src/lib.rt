@@ -1,4 +1,6 @@
 // A quantiser of samples, each an `f32`, to odd levels from -31 to 31.
+#![tactic(auto)]
+
 ghost use Rattle.std.specs.Prelude.{◌≡◌, true, Some, None, MatchResult};
 ghost use Rattle.faults.specs.Rows.{row_of};
 ghost use Rattle.quantiser.specs.Levels.{level_of};

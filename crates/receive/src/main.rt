@@ -1,4 +1,6 @@
 // Reads text lines from standard input, and writes what is answered to them.
+#![tactic(auto)]
+
 use faults::MOST_INPUT;
 use receiving::received;
 use std::io::Read;

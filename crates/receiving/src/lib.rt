@@ -1,4 +1,6 @@
 // What is answered to an input of text lines: a line of text for each frame line.
+#![tactic(auto)]
+
 mod line;
 mod receiving;
 mod report;

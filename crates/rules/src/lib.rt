@@ -1,4 +1,6 @@
 // Flip rules: which bits a round flips.
+#![tactic(auto)]
+
 mod chosen;
 mod kinds;
 mod laws;

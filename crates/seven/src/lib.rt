@@ -1,4 +1,6 @@
 // The seven-bit code with the checks {0,2,4,6}, {1,2,5,6} and {3,4,5,6}.
+#![tactic(auto)]
+
 ghost use Rattle.std.specs.Prelude.{◌≡◌, MatchResult};
 ghost use Rattle.faults.specs.declared.Fault.TheVariants.{NoMemory};
 ghost use Rattle.codes.specs.Lawful.{Lawful};

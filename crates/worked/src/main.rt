@@ -1,4 +1,5 @@
 // Worked examples of the link decoder's layers, a line for each, and a function for each group.
+#![tactic(auto)]
 
 mod choosing;
 mod making;
