@@ -1,7 +1,7 @@
 -- The sources that come with the crate are lawful. Assumes nothing.
 use Rattle.std.specs.Prelude.{◌≡◌, ℕ, ◌+◌, ◌*◌, ◌%◌, ◌<◌, ◌≤◌, Bool, true, false, cond, ◌&&◌, T, ◌⊎◌, List, length, ℤ, pos, ◌≤ℤ◌, is_some, Some, None, Option, int_le, nat_lt, slice_index_or, refl}
 use Rattle.std.proofs.Common.{sym, subst, inl, inr, mod-lt, arith, le-ltb}
-use Rattle.std.proofs.Math.Bool.{and_false}
+use Rattle.std.proofs.Math.Bool.{and-false}
 use Rattle.std.specs.Int.Signed.{le_z_yes}
 use Rattle.std.proofs.lemmas.List.{get_or_past}
 use Rattle.std.proofs.lemmas.Int.{ints}
@@ -14,7 +14,7 @@ silence_lawful = record { low = λ r k. omega (arith, ints); high = λ r k. omeg
 
 unspoken : (r k : ℕ) → (most_rounds ≤ r) ⊎ (most_bits ≤ k) → (nat_lt r most_rounds && nat_lt k most_bits) ≡ false
 unspoken r k (inl a) = rw (le-ltb r most_rounds a)
-unspoken r k (inr a) = rw (le-ltb k most_bits a) (and_false (nat_lt r most_rounds))
+unspoken r k (inr a) = rw (le-ltb k most_bits a) (and-false (nat_lt r most_rounds))
 
 low_of : (b : Bool) (x : ℤ) → least_noise ≤ℤ x → least_noise ≤ℤ cond b x (pos 0)
 low_of true x h = h

@@ -8,6 +8,6 @@ pub returns : goal.returns
 returns c =
     let t = c.args.self.now in
     let law = tabled_lawful (vec_items t.entries) t.good in
-    let f : SFits w16 c.entry-at.result = search rules in
-    let e : to_z w16 (of_z w16 c.entry-at.result) ≡ tabled (vec_items t.entries) c.args.round c.args.bit = to_z-of_z w16 c.entry-at.result f ∙ c.entry-at.ensures ∙ ap (λ xs. tabled xs c.args.round c.args.bit) c.deref.ensures.value in
+    let f : SFits w16 c.entry_at.result = search rules in
+    let e : to_z w16 (of_z w16 c.entry_at.result) ≡ tabled (vec_items t.entries) c.args.round c.args.bit = to_z-of_z w16 c.entry_at.result f ∙ c.entry_at.ensures ∙ ap (λ xs. tabled xs c.args.round c.args.bit) c.deref.ensures.value in
     record { value = e; low = rw e (law.low c.args.round c.args.bit); high = rw e (law.high c.args.round c.args.bit) }
