@@ -4,12 +4,12 @@ use Rattle.listed.specs.Order.{Parts}
 use Rattle.listed.proofs.Searched.{short}
 use Rattle.listed.proofs.starts_of.Goals as goal
 
-pub overflow-cast-lower : goal.overflow-cast-lower
-overflow-cast-lower c = omega (arith, c.lower.ensures.inside, short c.args.side c.args.pairs.now c.requires.0)
+pub overflow_cast-lower : goal.overflow_cast-lower
+overflow_cast-lower c = omega (arith, c.lower.ensures.inside, short c.args.side c.args.pairs.now c.requires.0)
 
 pub loop-c-preserved : goal.loop-c-preserved
 loop-c-preserved c =
-    let p = c.in-ok-push.ensures in
+    let p = c.in_ok-push.ensures in
     let e : get_or (vec_items c.push.new.self) c.loop-c.c 0 ≡ c.lower.result = ap (λ n. get_or (vec_items c.push.new.self) n 0) (sym c.loop-c.invariant.0) ∙ p.by_index.1 0 refl in (
       omega (arith, p.len, c.loop-c.invariant.0),
       below_more (λ k. Parts c.args.side c.args.pairs.now (k * stride) (get_or (vec_items c.push.new.self) k 0)) c.loop-c.c

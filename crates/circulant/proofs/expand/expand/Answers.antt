@@ -5,13 +5,13 @@ use Rattle.circulant.proofs.Building.{block_more, minors_few, minors_fit, lists_
 use Rattle.circulant.proofs.Turning.{turns_within}
 use Rattle.circulant.proofs.expand.expand.Goals as goal
 
-pub push-block-requires : goal.push-block-requires
-push-block-requires c =
+pub push_block-requires : goal.push_block-requires
+push_block-requires c =
     let s = c.args.side in
     let g = c.args.grid in
     let turn = turn_at s g c.args.cells.now c.loop-major.major in
-    let n = c.minors-of-count.ensures in
-    let ts = c.deref.ensures.value ∙ c.in-ok-turns.ensures in
+    let n = c.minors_of-count.ensures in
+    let ts = c.deref.ensures.value ∙ c.in_ok-turns.ensures in
     let e = ap (λ (r : Rows). length r.items) c.loop-major.invariant in
     record {
       small = g.small;
@@ -27,7 +27,7 @@ loop-major-preserved c =
     let g = c.args.grid in
     let lists : List Turn → ℕ → List ℕ = λ ts o. map (landing g.size o) ts in
     let turns = turns_below (turn_at s g c.args.cells.now c.loop-major.major) (minors s g) in
-    c.in-ok-push-block.ensures
-    ∙ ap (λ ts. with_lists (lists ts) g.size (rows_of c.loop-major.table)) (c.deref.ensures.value ∙ c.in-ok-turns.ensures)
+    c.in_ok-push_block.ensures
+    ∙ ap (λ ts. with_lists (lists ts) g.size (rows_of c.loop-major.table)) (c.deref.ensures.value ∙ c.in_ok-turns.ensures)
     ∙ ap (with_lists (lists turns) g.size) c.loop-major.invariant
     ∙ sym (block_more s g c.args.cells.now c.loop-major.major)

@@ -5,9 +5,9 @@ use Rattle.listed.proofs.Searched.{searched, searched_no}
 use Rattle.listed.proofs.order.has_pair.Goals as goal
 
 pub returns-then-i-pairs : goal.returns-then-i-pairs
-returns-then-i-pairs c = c.same-pair.ensures ∙ searched ByBit c.args.pairs.now c.args.p c.code-of.result c.lower-i.result c.code-of.ensures c.requires.0 c.lower-i.ensures (omega arith)
+returns-then-i-pairs c = c.same_pair.ensures ∙ searched ByBit c.args.pairs.now c.args.p c.code_of.result c.lower-i.result c.code_of.ensures c.requires.0 c.lower-i.ensures (omega arith)
 
 pub returns-else-i-pairs : goal.returns-else-i-pairs
 returns-else-i-pairs c =
     let h : length c.args.pairs.now ≤ c.lower-i.result = omega arith in
-    le-ltb c.lower-i.result (length c.args.pairs.now) h ∙ sym (searched_no ByBit c.args.pairs.now c.args.p c.code-of.result c.lower-i.result c.code-of.ensures c.requires.0 c.lower-i.ensures (λ l. absurd (omega arith)))
+    le-ltb c.lower-i.result (length c.args.pairs.now) h ∙ sym (searched_no ByBit c.args.pairs.now c.args.p c.code_of.result c.lower-i.result c.code_of.ensures c.requires.0 c.lower-i.ensures (λ l. absurd (omega arith)))
