@@ -66,7 +66,7 @@ fn switch_at(threshold: i8) -> Result<Chosen, Fault>
 fn is_single(line: &[u8]) -> bool
     ensures { result ≡ bytes_eq line.now (codes "single") }
 {
-    line == b"single"
+    line == b"single".as_slice()
 }
 
 impl<'a> Part<'a> {

@@ -10,5 +10,5 @@ returns g c =
     let ys = c.args.levels.now in
     let rs = c.args.records.now in
     let ss = c.args.signs.now in
-    let after : whole c.open-checks.new.records c.open-checks.new.signs _ ≡ filled a w ys rs ss = search rules in
+    let after : whole c.open_checks.new.records c.open_checks.new.signs _ ≡ filled a w ys rs ss = search rules in
     record { whole = after; exact = fill_exact a w ys rs ss _ after; unmarked = fill_unmarked a w ys rs ss _ after }

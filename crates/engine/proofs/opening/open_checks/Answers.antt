@@ -6,9 +6,9 @@ use Rattle.engine.proofs.opening.open_checks.Goals as goal
 pub loop-c-preserved : goal.loop-c-preserved
 loop-c-preserved g c =
     let hear = open_check (g.C.Code.answers c.args.code.now) c.args.weight c.loop-c.c in
-    let e = c.open-check-objective.result in
-    let rs = c.open-check-objective.new.records in
-    let ss = c.open-check-objective.new.signs in
+    let e = c.open_check-objective.result in
+    let rs = c.open_check-objective.new.records in
+    let ss = c.open_check-objective.new.signs in
     let fits : SFits w32 e = search rules in
-    let heard : whole rs ss e ≡ hear (whole c.loop-c.records c.loop-c.signs _) = c.open-check-objective.ensures in
+    let heard : whole rs ss e ≡ hear (whole c.loop-c.records c.loop-c.signs _) = c.open_check-objective.ensures in
     rw add-one (ap (whole rs ss) (to_z-of_z w32 e fits) ∙ heard ∙ ap hear c.loop-c.invariant)

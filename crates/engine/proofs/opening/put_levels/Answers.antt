@@ -6,9 +6,9 @@ use Rattle.engine.proofs.opening.put_levels.Goals as goal
 
 pub loop-k-preserved : goal.loop-k-preserved
 loop-k-preserved c =
-    let fits : SFits w8 c.level-at.result = search rules in
+    let fits : SFits w8 c.level_at.result = search rules in
     let rs : List Bit = c.loop-k.records in
     rw add-one (
-    c.put-level.ensures
-    ∙ ap (λ (y : ℤ). set rs c.loop-k.k (fresh y)) (to_z-of_z w8 c.level-at.result fits ∙ c.level-at.ensures)
+    c.put_level.ensures
+    ∙ ap (λ (y : ℤ). set rs c.loop-k.k (fresh y)) (to_z-of_z w8 c.level_at.result fits ∙ c.level_at.ensures)
     ∙ ap (λ (l : List Bit). set l c.loop-k.k (fresh (get_or c.args.levels.now c.loop-k.k (pos 0)))) c.loop-k.invariant)

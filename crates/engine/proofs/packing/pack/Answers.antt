@@ -8,7 +8,7 @@ use Rattle.engine.proofs.packing.pack.Goals as goal
 pub loop-i-preserved : goal.loop-i-preserved
 loop-i-preserved c k l =
     let f = λ (i : ℕ). byte_below (length c.args.records.now) (digits_of c.args.records.now) i 8 in
-    ap (λ v. get_or (set c.loop-i.output c.loop-i.i v) k 0) c.byte-at.ensures
+    ap (λ v. get_or (set c.loop-i.output c.loop-i.i v) k 0) c.byte_at.ensures
     ∙ fill_by_more f c.loop-i.output c.loop-i.i 0 (omega arith) c.loop-i.invariant k l
 
 pub returns : goal.returns

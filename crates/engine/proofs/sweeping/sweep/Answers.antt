@@ -11,6 +11,6 @@ returns g c =
     let u = g.R.Rule.state c.args.rule.now in
     let noise = g.N.Noise.noise c.args.noise.now in
     let start = whole c.args.records.now c.args.signs.now c.args.objective in
-    let after : whole c.flip-all-objective.new.records c.flip-all-objective.new.signs _ ≡ swept a c.args.weight (m.says u) (noise c.args.round) start = search rules in
-    let count : c.mark-all-flips.result ≡ swept_count (m.says u) (noise c.args.round) c.args.records.now = search rules in
+    let after : whole c.flip_all-objective.new.records c.flip_all-objective.new.signs _ ≡ swept a c.args.weight (m.says u) (noise c.args.round) start = search rules in
+    let count : c.mark_all-flips.result ≡ swept_count (m.says u) (noise c.args.round) c.args.records.now = search rules in
     record { whole = after; flips = count; exact = sweep_exact a c.args.weight m u noise (g.N.Noise.lawful c.args.noise.now) c.args.round start _ _ after count }

@@ -7,4 +7,4 @@ loop-rest-preserved c =
     let xs = c.loop-rest.rest.now in
     let done = vec_items c.loop-rest.out in
     let long : 2 ≤ length xs = search rules in
-    turn xs done _ _ long (c.in-ok-push.ensures.items ∙ ap (λ (z : ℤ). done ++ (z ∷ [])) (search rules)) c.loop-rest.invariant
+    turn xs done _ _ long (c.in_ok-push.ensures.items ∙ ap (λ (z : ℤ). done ++ (z ∷ [])) (search rules)) c.loop-rest.invariant

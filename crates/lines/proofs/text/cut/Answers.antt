@@ -9,11 +9,11 @@ pub returns : goal.returns
 returns c =
     let p = c.args.part in
     let bs = bytes_of p in
-    let n = c.line-end-n.result in
+    let n = c.line_end-n.result in
     let past = c.if-n-bytes.past in
     let is = c.bytes-bytes.ensures.value in
-    let e : n ≡ before_feed bs = c.line-end-n.ensures.value ∙ ap before_feed is in
-    let h : n ≤ length bs = subst (λ l. n ≤ length l) is c.line-end-n.ensures.within in
+    let e : n ≡ before_feed bs = c.line_end-n.ensures.value ∙ ap before_feed is in
+    let h : n ≤ length bs = subst (λ l. n ≤ length l) is c.line_end-n.ensures.within in
     let some : 0 < length bs = search rules in
     parted p.from p.to n past p.input.now h
     (elim c.if-n-bytes.branch [

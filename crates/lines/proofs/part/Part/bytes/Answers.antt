@@ -6,7 +6,7 @@ pub returns-then-self-end : goal.returns-then-self-end
 returns-then-self-end c =
     let p = c.args.self.now in
     let xs = p.input.now in
-    let end = c.end-within-end.result in
+    let end = c.end_within-end.result in
     let d = length-drop p.from xs in
     let t = length-take (end - p.from) (drop p.from xs) in
     record { value = clipped p.from p.to end xs (search rules); within = λ h. omega arith }
@@ -14,4 +14,4 @@ returns-then-self-end c =
 pub returns-else-self-end : goal.returns-else-self-end
 returns-else-self-end c =
     let p = c.args.self.now in
-    record { value = nothing_there p.from p.to c.end-within-end.result p.input.now (search rules) (search rules); within = λ h. absurd (omega arith) }
+    record { value = nothing_there p.from p.to c.end_within-end.result p.input.now (search rules) (search rules); within = λ h. absurd (omega arith) }

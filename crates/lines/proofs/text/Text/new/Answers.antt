@@ -3,8 +3,8 @@ use Rattle.lines.specs.Lines.{kinds, lines_from}
 use Rattle.lines.proofs.Feeds.{joined_again}
 use Rattle.lines.proofs.text.Text.new.Goals as goal
 
-pub returns-then-input-gt-MOST-INPUT : goal.returns-then-input-gt-MOST-INPUT
-returns-then-input-gt-MOST-INPUT c = record { made = (search rules, refl); whole = joined_again }
+pub returns-then-input-gt-MOST_INPUT : goal.returns-then-input-gt-MOST_INPUT
+returns-then-input-gt-MOST_INPUT c = record { made = (search rules, refl); whole = joined_again }
 
 pub returns : goal.returns
 returns c =

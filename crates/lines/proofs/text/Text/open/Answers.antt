@@ -14,8 +14,8 @@ later_left : (ls : List Placed) (l : Placed) (left : List Seen) → kinds false 
 later_left [] l left e = cc
 later_left (k ∷ ks) l left e = cc
 
-pub returns-in-err-rule : goal.returns-in-err-rule
-returns-in-err-rule c = search (rules, first_taken)
+pub returns-in_err-rule-in-Some-Rule : goal.returns-in_err-rule-in-Some-Rule
+returns-in_err-rule-in-Some-Rule c = search (rules, first_taken)
 
-pub returns-in-ok-rule : goal.returns-in-ok-rule
-returns-in-ok-rule c = search (rules, first_taken, later_left)
+pub returns-in_ok-rule-in-Some-Rule : goal.returns-in_ok-rule-in-Some-Rule
+returns-in_ok-rule-in-Some-Rule c = search (rules, first_taken, later_left)
