@@ -10,16 +10,18 @@ fn push_number(text: &mut String, place: usize, n: usize) -> fmt::Result
     ensures { OnOk result (string_bytes text.new ≡ string_bytes text.old ++ number_text place n) }
 {
     if place == 0 {
-        write!(text, "{n}")
+        write!(text, "{n}")?;
     } else {
-        write!(text, " {n}")
+        write!(text, " {n}")?;
     }
+    Ok(())
 }
 
 fn push_pair(text: &mut String, m: usize, n: usize) -> fmt::Result
     ensures { OnOk result (string_bytes text.new ≡ string_bytes text.old ++ pair_text m n) }
 {
-    writeln!(text, "{m} {n}")
+    writeln!(text, "{m} {n}")?;
+    Ok(())
 }
 
 // How many checks or bits there are.
@@ -77,7 +79,8 @@ fn push_degrees<C: Code>(text: &mut String, code: &C, side: Side) -> fmt::Result
     for at in 0..count_of(code, side) {
         push_number(text, at, degree_of(code, side, at))?;
     }
-    writeln!(text, "")
+    writeln!(text, "")?;
+    Ok(())
 }
 
 // The numbers of one check or bit, filled up with 0.
@@ -93,7 +96,8 @@ fn push_list<C: Code>(
     for place in 0..width {
         push_number(text, place, entry_of(code, side, at, place))?;
     }
-    writeln!(text, "")
+    writeln!(text, "")?;
+    Ok(())
 }
 
 fn push_lists<C: Code>(text: &mut String, code: &C, side: Side) -> fmt::Result

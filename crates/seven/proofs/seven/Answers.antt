@@ -3,4 +3,4 @@ use Rattle.seven.proofs.Making.{made_seven}
 use Rattle.seven.proofs.seven.Goals as goal
 
 pub returns : goal.returns
-returns c = made_seven c.new.result listed_of _ _ c.by-check.ensures c.by-bit.ensures c.new.ensures
+returns c = made_seven c.new.result listed_of _ _ c.by_check.ensures c.by_bit.ensures c.new.ensures

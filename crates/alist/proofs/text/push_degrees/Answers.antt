@@ -5,7 +5,7 @@ use Rattle.alist.proofs.Lines.{number_more, line_all}
 use Rattle.alist.proofs.text.push_degrees.Goals as goal
 
 pub loop-at-preserved : goal.loop-at-preserved
-loop-at-preserved g c = number_more (degree_of c.args.side (g.C.Code.answers c.args.code.now)) c.loop-at.at c.degree-of.result _ _ _ c.degree-of.ensures c.loop-at.invariant c.in-ok-push-number.ensures
+loop-at-preserved g c = number_more (degree_of c.args.side (g.C.Code.answers c.args.code.now)) c.loop-at.at c.degree_of.result _ _ _ c.degree_of.ensures c.loop-at.invariant c.in_ok-push_number.ensures
 
 pub returns : goal.returns
-returns g c = IfOk-weaker c.writeln.result _ _ (λ u h. line_all (degree_of c.args.side (g.C.Code.answers c.args.code.now)) c.loop-at.at (count_of c.args.side (g.C.Code.answers c.args.code.now)) _ _ _ (omega arith) c.loop-at.invariant h) c.writeln.ensures.bytes
+returns g c = line_all (degree_of c.args.side (g.C.Code.answers c.args.code.now)) c.loop-at.at (count_of c.args.side (g.C.Code.answers c.args.code.now)) _ _ _ (omega arith) c.loop-at.invariant c.in_ok-writeln.ensures.bytes

@@ -5,7 +5,7 @@ use Rattle.alist.proofs.Lines.{number_more, line_all}
 use Rattle.alist.proofs.text.push_list.Goals as goal
 
 pub loop-place-preserved : goal.loop-place-preserved
-loop-place-preserved g c = number_more (entry_of c.args.side (g.C.Code.answers c.args.code.now) c.args.at) c.loop-place.place c.entry-of.result _ _ _ c.entry-of.ensures c.loop-place.invariant c.in-ok-push-number.ensures
+loop-place-preserved g c = number_more (entry_of c.args.side (g.C.Code.answers c.args.code.now) c.args.at) c.loop-place.place c.entry_of.result _ _ _ c.entry_of.ensures c.loop-place.invariant c.in_ok-push_number.ensures
 
 pub returns : goal.returns
-returns g c = IfOk-weaker c.writeln.result _ _ (λ u h. line_all (entry_of c.args.side (g.C.Code.answers c.args.code.now) c.args.at) c.loop-place.place c.args.width _ _ _ (omega arith) c.loop-place.invariant h) c.writeln.ensures.bytes
+returns g c = line_all (entry_of c.args.side (g.C.Code.answers c.args.code.now) c.args.at) c.loop-place.place c.args.width _ _ _ (omega arith) c.loop-place.invariant c.in_ok-writeln.ensures.bytes

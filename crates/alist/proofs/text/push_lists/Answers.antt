@@ -8,4 +8,4 @@ loop-at-preserved g c =
     let a = g.C.Code.answers c.args.code.now in
     let s = c.args.side in
     line_more (λ i. line_text (entry_of s a i) (widest_of s a)) c.loop-at.at _ _ _ c.loop-at.invariant
-    (c.in-ok-push-list.ensures ∙ ap (λ w. string_bytes c.loop-at.text ++ line_text (entry_of s a c.loop-at.at) w) c.widest-of-width.ensures)
+    (c.in_ok-push_list.ensures ∙ ap (λ w. string_bytes c.loop-at.text ++ line_text (entry_of s a c.loop-at.at) w) c.widest_of-width.ensures)

@@ -3,8 +3,8 @@ use Rattle.faults.proofs.Firsts.{first_more, first_found}
 use Rattle.decoder.specs.Openings.{bad_level}
 use Rattle.decoder.proofs.opening.first_bad_level.Goals as goal
 
-pub returns-then-not-level-fits : goal.returns-then-not-level-fits
-returns-then-not-level-fits c =
+pub returns-then-not-level_fits : goal.returns-then-not-level_fits
+returns-then-not-level_fits c =
     let bad : bad_level c.args.levels.now c.loop-i.i ≡ true = search rules in
     sym (first_found (bad_level c.args.levels.now) c.loop-i.i _ c.loop-i.invariant bad c.loop-i-test.true)
 

@@ -9,9 +9,9 @@ loop-call-preserved g c = (
   c.perform.ensures.meaning ∙ c.loop-call.invariant.0,
   going_on _ _ _ _ _ c.loop-call.call-index (map (unpacked vec_items) (vec_items c.loop-call.answers)) _ _
       c.loop-call.invariant.1 c.loop-call-test.true _ c.loop-call.invariant.0
-      (unpacked vec_items c.in-ok-perform.field-0) _ _
-      c.in-ok-perform.ensures.all
-      (ap (map (unpacked vec_items)) c.in-ok-push.ensures.items ∙ map_push (unpacked vec_items) (vec_items c.loop-call.answers) c.in-ok-perform.field-0),
+      (unpacked vec_items c.in_ok-perform.field-0) _ _
+      c.in_ok-perform.ensures.all
+      (ap (map (unpacked vec_items)) c.in_ok-push.ensures.items ∙ map_push (unpacked vec_items) (vec_items c.loop-call.answers) c.in_ok-perform.field-0),
 )
 
 pub returns : goal.returns

@@ -8,6 +8,6 @@ returns g c =
     let m = g.R.Rule.meaning c.args.rule.now in
     let noise = g.N.Noise.noise c.args.noise.now in
     let before = lent c.args.levels.now c.args.records.now c.args.signs.now (g.R.Rule.state c.args.rule.now) in
-    let after = lent c.quantise.new.levels c.perform-all.new.records c.perform-all.new.signs (g.R.Rule.state c.perform-all.new.rule) in
+    let after = lent c.quantise.new.levels c.perform_all.new.records c.perform_all.new.signs (g.R.Rule.state c.perform_all.new.rule) in
     let ran : Replays (given g.C.Code.answers c.args.terms.now) m noise c.args.samples.now before after _ = record { quantised = search rules; levels = search rules; allowed = search rules; performed = search rules } in
     record { outcome = ran; exact = replay_from _ m noise (g.N.Noise.lawful c.args.noise.now) c.args.samples.now before after _ ran; meaning = search rules }

@@ -19,4 +19,4 @@ loop-verdict-preserved g c =
     let a = g.C.Code.answers c.args.code.now in
     let now = held c.loop-verdict.self c.loop-verdict.records c.loop-verdict.signs (g.R.Rule.state c.loop-verdict.rule) in
     let goes : verdict_in c.loop-verdict.self c.loop-verdict.signs ≡ None = search rules in
-    (one_more m noise a _ now _ c.loop-verdict.invariant.0 goes (c.make-round.ensures.held ∙ ap (λ x. rounded x noise a now) c.loop-verdict.invariant.1), c.make-round.ensures.meaning ∙ c.loop-verdict.invariant.1)
+    (one_more m noise a _ now _ c.loop-verdict.invariant.0 goes (c.make_round.ensures.held ∙ ap (λ x. rounded x noise a now) c.loop-verdict.invariant.1), c.make_round.ensures.meaning ∙ c.loop-verdict.invariant.1)
