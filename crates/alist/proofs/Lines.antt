@@ -1,5 +1,5 @@
 -- Text that is written number by number and line by line.
-use Rattle.std.proofs.Common.{◌≡◌, ℕ, ◌+◌, max, List, [], ◌∷◌, ◌++◌, sym, refl, ap, ◌∙◌, append_assoc, add-one}
+use Rattle.std.proofs.Common.{◌≡◌, ℕ, ◌+◌, max, List, [], ◌∷◌, ◌++◌, append_assoc, add-one}
 use Rattle.codes.specs.Most.{most}
 use Rattle.alist.specs.Text.{number_text, numbers_text, line_text, lines_text}
 

@@ -1,5 +1,5 @@
 -- The seven-bit code with the checks {0,2,4,6}, {1,2,5,6} and {3,4,5,6}, as lists of pairs. Assumes nothing.
-use Rattle.std.specs.Prelude.{ℕ, List, [], ◌∷◌, map}
+use Rattle.std.specs.Prelude.{ℕ, List, [], ◌∷◌}
 use Rattle.codes.specs.Pairs.{Pairs}
 use Rattle.listed.specs.declared.pair.Pair.{Pair}
 use Rattle.listed.specs.Listing.{listed_pairs}

@@ -1,5 +1,4 @@
 use Rattle.std.proofs.Common.{arith}
-use Rattle.std.proofs.lemmas.Result.{IfOk-weaker}
 use Rattle.alist.specs.Text.{entry_of}
 use Rattle.alist.proofs.Lines.{number_more, line_all}
 use Rattle.alist.proofs.text.push_list.Goals as goal
