@@ -8,6 +8,6 @@ use Rattle.receiving.proofs.receiving.line_text.Goals as goal
 
 pub returns-in-Frame : goal.returns-in-Frame
 returns-in-Frame c = record {
-  text = MatchResult-weaker c.frame-line.result c.frame-line.ensures.text (λ s is. is ∙ ap (λ (l : Line). seen_text (meaning_of c.args.rule.now) (seen l)) (sym c.in-Frame.is)) (λ e is. is);
-  meaning = c.frame-line.ensures.meaning;
+  text = MatchResult-weaker c.frame_line.result c.frame_line.ensures.text (λ s is. is ∙ ap (λ (l : Line). seen_text (meaning_of c.args.rule.now) (seen l)) (sym c.in-Frame.is)) (λ e is. is);
+  meaning = c.frame_line.ensures.meaning;
 }
