@@ -1,5 +1,5 @@
 -- One turn over two digits.
-use Rattle.std.proofs.Common.{◌≡◌, ℕ, ◌+◌, ◌-◌, ◌*◌, ◌≤◌, List, [], ◌∷◌, ◌++◌, length, get_or, take, drop, ℤ, sym, refl, ap, ◌∙◌, append_assoc, arith, length-drop, take_all}
+use Rattle.std.proofs.Common.{◌≡◌, ℕ, ◌+◌, ◌-◌, ◌*◌, ◌<◌, ◌≤◌, List, [], ◌∷◌, ◌++◌, length, get_or, take, drop, ℤ, sym, refl, ap, ◌∙◌, append_assoc, append-nil, arith, length-drop, take_all}
 use Rattle.lines.specs.Digits.{nibble, level, worth, levels_of}
 
 two : (xs : List ℕ) → 2 ≤ length xs → levels_of xs ≡ level (worth (nibble (get_or xs 0 0)) * 16 + worth (nibble (get_or xs 1 0))) ∷ levels_of (drop 2 xs)
@@ -18,3 +18,9 @@ turn xs done done' all h e inv =
     ∙ append_assoc done (level (worth (nibble (get_or xs 0 0)) * 16 + worth (nibble (get_or xs 1 0))) ∷ []) (levels_of (drop 2 xs))
     ∙ ap (λ l. done ++ l) (sym (two xs h))
     ∙ inv
+
+-- fewer than two are left
+pub nothing_left : (xs : List ℕ) (done all : List ℤ) → length xs < 2 → done ++ levels_of xs ≡ all → done ≡ all
+nothing_left [] done all h e = sym (append-nil done) ∙ e
+nothing_left (x ∷ []) done all h e = sym (append-nil done) ∙ e
+nothing_left (x ∷ y ∷ zs) done all h e = absurd (omega arith)

@@ -40,7 +40,13 @@ entry_read s xs count starts o t c p x e =
     (λ (h : count ≤ c). none_some x (rw (size_out starts count c t.many h) at e))
     (cases_lt c count)
 
--- each pair of the list is an entry
+-- an entry is a pair of the list, and each pair of the list an entry
+pub entry_pair : (s : Side) (xs : List Pair) (count : ℕ) (starts : List ℕ) → Sorted s xs → Starts s xs count starts → (c p x : ℕ) → place_in starts (map (minor_of s) xs) c p ≡ Some x → (j : ℕ) × (j < length xs) × (major_of s (get_or xs j blank) ≡ c) × (minor_of s (get_or xs j blank) ≡ x)
+entry_pair s xs count starts o t c p x e =
+    let r = entry_read s xs count starts o t c p x e in
+    let i = inside s xs count starts o t c p r.0 r.1 in
+    (get_or starts c 0 + p, i.0, i.1, sym r.2)
+
 pub pair_entry : (s : Side) (xs : List Pair) (count : ℕ) (starts : List ℕ) → Sorted s xs → Starts s xs count starts → (j : ℕ) → j < length xs → major_of s (get_or xs j blank) < count → (p : ℕ) × (place_in starts (map (minor_of s) xs) (major_of s (get_or xs j blank)) p ≡ Some (minor_of s (get_or xs j blank)))
 pair_entry s xs count starts o t j h l =
     let c = major_of s (get_or xs j blank) in
