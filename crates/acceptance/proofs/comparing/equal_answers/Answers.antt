@@ -7,13 +7,13 @@ use Rattle.acceptance.specs.Comparing.{Tallied, EqualAt}
 use Rattle.acceptance.proofs.Sides.{both_decide, both_lengths}
 use Rattle.acceptance.proofs.Tallies.{tallied_one, tallied_none}
 use Rattle.acceptance.proofs.comparing.equal_answers.Goals as goal
-use Rattle.acceptance.proofs.comparing.equal_answers.Goals.{then-same-answer, else-same-answer}
+use Rattle.acceptance.proofs.comparing.equal_answers.Goals.{then-same_answer, else-same_answer}
 
 pub loop-k-preserved : goal.loop-k-preserved
 loop-k-preserved c =
     let P = EqualAt (map (unpacked vec_items) c.args.first.now) (map (unpacked vec_items) c.args.second.now) in
-    let at = both_decide (unpacked vec_items) (λ (a b : Answer (List ℕ)). a ≡ b) c.args.first.now c.args.second.now c.loop-k.k _ _ (Unmet 0) _ (omega arith) (omega arith) c.index-first-k.is c.index-second-k.is c.same-answer.ensures in
-    elim c.if-same-answer.branch [ then-same-answer w ↦ (omega (arith, w.count-is), rw w.count-is (tallied_one P _ _ c.loop-k.invariant.1 (at.0 w.if-same-answer.true))) | else-same-answer w ↦ (omega (arith, w.count-is), rw w.count-is (tallied_none P _ _ c.loop-k.invariant.1 (not_from_Decides _ at w.if-same-answer.false))) ]
+    let at = both_decide (unpacked vec_items) (λ (a b : Answer (List ℕ)). a ≡ b) c.args.first.now c.args.second.now c.loop-k.k _ _ (Unmet 0) _ (omega arith) (omega arith) c.index-first-k.is c.index-second-k.is c.same_answer.ensures in
+    elim c.if-same_answer.branch [ then-same_answer w ↦ (omega (arith, w.count-is), rw w.count-is (tallied_one P _ _ c.loop-k.invariant.1 (at.0 w.if-same_answer.true))) | else-same_answer w ↦ (omega (arith, w.count-is), rw w.count-is (tallied_none P _ _ c.loop-k.invariant.1 (not_from_Decides _ at w.if-same_answer.false))) ]
 
 pub returns : goal.returns
 returns c =

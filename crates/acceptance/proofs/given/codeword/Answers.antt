@@ -5,12 +5,12 @@ use Rattle.acceptance.specs.Frames.{is_one}
 use Rattle.acceptance.proofs.Words.{ones_are_codeword}
 use Rattle.acceptance.proofs.given.codeword.Goals as goal
 
-pub returns-in-err-push : goal.returns-in-err-push
-returns-in-err-push c = record { digits = search rules; even = ones_are_codeword }
+pub returns-in_err-push : goal.returns-in_err-push
+returns-in_err-push c = record { digits = search rules; even = ones_are_codeword }
 
 pub loop-bit-preserved : goal.loop-bit-preserved
 loop-bit-preserved c =
-    let e = c.in-ok-push.ensures.items in
+    let e = c.in_ok-push.ensures.items in
     let m = map-range_with_len_more is_one 0 c.loop-bit.bit c.loop-bit.bit (omega arith) in
     cc
 

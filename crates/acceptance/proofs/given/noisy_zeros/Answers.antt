@@ -4,4 +4,4 @@ use Rattle.acceptance.proofs.Samples.{nonzero_push}
 use Rattle.acceptance.proofs.given.noisy_zeros.Goals as goal
 
 pub loop-bit-preserved : goal.loop-bit-preserved
-loop-bit-preserved c = (omega (arith, c.in-ok-push.ensures.len), subst NonZero (sym c.in-ok-push.ensures.items) (nonzero_push _ _ c.loop-bit.invariant.1 c.sample-of.ensures))
+loop-bit-preserved c = (omega (arith, c.in_ok-push.ensures.len), subst NonZero (sym c.in_ok-push.ensures.items) (nonzero_push _ _ c.loop-bit.invariant.1 c.sample_of.ensures))

@@ -18,6 +18,6 @@ pub returns-in-100-to-179 : goal.returns-in-100-to-179
 unfolding eq neg of_bits
 returns-in-100-to-179 c = refl
 
-pub returns-in-default : goal.returns-in-default
+pub returns-in_default : goal.returns-in_default
 unfolding eq neg of_bits
-returns-in-default c = refl
+returns-in_default c = refl

@@ -11,12 +11,12 @@ use Rattle.acceptance.proofs.trials.replay_both.Goals as goal
 
 pub returns : goal.returns
 returns g c =
-    let after = lent c.symmetry-trial.new.levels c.symmetry-trial.new.records c.symmetry-trial.new.signs (g.R.Rule.state c.symmetry-trial.new.rule) in
-    let other_After = lent c.symmetry-trial.new.other-levels c.symmetry-trial.new.other-records c.symmetry-trial.new.other-signs (g.Q.Rule.state c.symmetry-trial.new.other-rule) in
-    let levels : length c.deref-mut-4.result.now ≡ length c.deref-mut.result.now = omega (arith, c.deref-mut-4.ensures.len, c.deref-mut.ensures.len, c.in-ok-memory.ensures.0, c.in-ok-other-memory.ensures.0) in
-    let records : length c.deref-mut-5.result.now ≡ length c.deref-mut-2.result.now = omega (arith, c.deref-mut-5.ensures.len, c.deref-mut-2.ensures.len, c.in-ok-memory.ensures.1, c.in-ok-other-memory.ensures.1) in
-    let signs : length c.deref-mut-6.result.now ≡ length c.deref-mut-3.result.now = omega (arith, c.deref-mut-6.ensures.len, c.deref-mut-3.ensures.len, c.in-ok-memory.ensures.2, c.in-ok-other-memory.ensures.2) in
-    value_and_fault c.symmetry-trial.result _ _ _ _ c.symmetry-trial.ensures.outcomes c.symmetry-trial.ensures.symmetry
+    let after = lent c.symmetry_trial.new.levels c.symmetry_trial.new.records c.symmetry_trial.new.signs (g.R.Rule.state c.symmetry_trial.new.rule) in
+    let other_After = lent c.symmetry_trial.new.other_levels c.symmetry_trial.new.other_records c.symmetry_trial.new.other_signs (g.Q.Rule.state c.symmetry_trial.new.other_rule) in
+    let levels : length c.deref_mut-4.result.now ≡ length c.deref_mut.result.now = omega (arith, c.deref_mut-4.ensures.len, c.deref_mut.ensures.len, c.in_ok-memory.ensures.0, c.in_ok-other_memory.ensures.0) in
+    let records : length c.deref_mut-5.result.now ≡ length c.deref_mut-2.result.now = omega (arith, c.deref_mut-5.ensures.len, c.deref_mut-2.ensures.len, c.in_ok-memory.ensures.1, c.in_ok-other_memory.ensures.1) in
+    let signs : length c.deref_mut-6.result.now ≡ length c.deref_mut-3.result.now = omega (arith, c.deref_mut-6.ensures.len, c.deref_mut-3.ensures.len, c.in_ok-memory.ensures.2, c.in_ok-other_memory.ensures.2) in
+    value_and_fault c.symmetry_trial.result _ _ _ _ c.symmetry_trial.ensures.outcomes c.symmetry_trial.ensures.symmetry
     (λ t h imaged alike equal.
     let lawful = subst (λ (k : Circulant). Lawful (circulant_of k) pairs) (sym c.terms.ensures.code) imaged.code in
     let negated = negated_at _ _ _ _ c.deref.ensures.value c.deref-2.ensures.value imaged.samples in

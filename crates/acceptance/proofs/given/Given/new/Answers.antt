@@ -6,22 +6,22 @@ use Rattle.acceptance.specs.Frames.{image_at}
 use Rattle.acceptance.proofs.Samples.{negated_by_image}
 use Rattle.acceptance.proofs.given.Given.new.Goals as goal
 
-pub returns-in-err-code : goal.returns-in-err-code
-returns-in-err-code c = search (rules, IfOk-from_err)
+pub returns-in_err-code : goal.returns-in_err-code
+returns-in_err-code c = search (rules, IfOk-from_err)
 
-pub returns-in-err-quantiser : goal.returns-in-err-quantiser
-returns-in-err-quantiser c = search (rules, IfOk-from_err)
+pub returns-in_err-quantiser : goal.returns-in_err-quantiser
+returns-in_err-quantiser c = search (rules, IfOk-from_err)
 
-pub returns-in-err-word : goal.returns-in-err-word
-returns-in-err-word c = search (rules, IfOk-from_err)
+pub returns-in_err-word : goal.returns-in_err-word
+returns-in_err-word c = search (rules, IfOk-from_err)
 
-pub returns-in-err-samples : goal.returns-in-err-samples
-returns-in-err-samples c = search (rules, IfOk-from_err)
+pub returns-in_err-samples : goal.returns-in_err-samples
+returns-in_err-samples c = search (rules, IfOk-from_err)
 
-pub returns-in-err-other-samples : goal.returns-in-err-other-samples
-returns-in-err-other-samples c = search (rules, IfOk-from_err)
+pub returns-in_err-other_samples : goal.returns-in_err-other_samples
+returns-in_err-other_samples c = search (rules, IfOk-from_err)
 
 pub returns : goal.returns
 returns c =
-    let image = subst (λ (zs : List Float). vec_items c.in-ok-other-samples.other-samples ≡ map (image_at zs) (range_with_len 0 (length zs))) c.deref.ensures.value c.in-ok-other-samples.ensures in
-    record { code = c.in-ok-code.ensures.lawful; word = c.in-ok-word.ensures.digits; samples = negated_by_image _ _ c.in-ok-samples.ensures.1 image }
+    let image = subst (λ (zs : List Float). vec_items c.in_ok-other_samples.other_samples ≡ map (image_at zs) (range_with_len 0 (length zs))) c.deref.ensures.value c.in_ok-other_samples.ensures in
+    record { code = c.in_ok-code.ensures.lawful; word = c.in_ok-word.ensures.digits; samples = negated_by_image _ _ c.in_ok-samples.ensures.1 image }
