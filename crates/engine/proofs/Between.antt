@@ -1,12 +1,10 @@
 -- The memory in the middle of a flip, check by check.
-use Rattle.std.proofs.Common.{◌≡◌, ℕ, zero, suc, ◌+◌, ◌*◌, ◌<◌, ◌≤◌, Bool, true, false, cond, not, ◌⊎◌, List, length, get_or, set, ℤ, pos, ◌+ℤ◌, ◌-ℤ◌, ◌*ℤ◌, neg_ℤ, Some, None, Option, sym, refl, ap, ◌∙◌, subst, ⊎_elim, arith, length-set, get_or-set_other, get_or-set_same, lt-ltb}
+use Rattle.std.proofs.Common.{◌≡◌, ℕ, zero, suc, ◌+◌, ◌*◌, ◌<◌, ◌≤◌, Bool, true, false, cond, not, length, get_or, set, ℤ, pos, ◌+ℤ◌, ◌-ℤ◌, ◌*ℤ◌, neg_ℤ, Some, None, Option, sym, refl, ap, ◌∙◌, subst, ⊎_elim, arith, length-set, get_or-set_other, get_or-set_same, lt-ltb}
 use Rattle.std.specs.Int.{saturate_to_bits}
 use Rattle.std.proofs.lemmas.Int.{ints}
 use Rattle.std.proofs.lemmas.Bool.{cases_eq, cases_Bool}
 use Rattle.codes.specs.Answers.{Answers}
-use Rattle.codes.specs.Lawful.{Lists, Lawful}
 use Rattle.codes.specs.Limits.{most_at_bit}
-use Rattle.codes.specs.Pairs.{Pairs, count_below}
 use Rattle.codes.proofs.Counts.{lists_count}
 use Rattle.plain.specs.Bounds.{most_level, most_weight, Within, Modest}
 use Rattle.plain.specs.Scores.{Setting, sum_below, score_of}
@@ -19,7 +17,7 @@ use Rattle.engine.specs.declared.bit.Bit.{Bit}
 use Rattle.engine.specs.declared.bit.Sign.{Sign}
 use Rattle.engine.specs.declared.bit.Sign.TheVariants.{Met, Unmet}
 use Rattle.engine.specs.Stands.{Fits, sign_value, StandsFor, FlipsExactly}
-use Rattle.engine.specs.Turns.{Memory, memory, blank, turned_sign, raised, turn_bit, alter, push, raise_places, turn_check, turn_places, flipped, fallen}
+use Rattle.engine.specs.Turns.{Memory, memory, blank, turned_sign, turn_bit, alter, push, raise_places, turn_check, turn_places, flipped, fallen}
 use Rattle.engine.proofs.Rows.{alter_length, alter_same, alter_other, raise_length, raise_self, row_hit, row_miss, row_kept, once_only, not_listed}
 
 -- ---- signs as yes and no

@@ -1,5 +1,5 @@
 -- The lowest bit, one after another.
-use Rattle.std.proofs.Common.{◌≡◌, ℕ, zero, suc, ◌<◌, ◌≤◌, Bool, true, false, cond, ◌⊎◌, ℤ, sym, refl, ap, ◌∙◌, ⊎_elim, arith}
+use Rattle.std.proofs.Common.{◌≡◌, ℕ, zero, suc, ◌<◌, Bool, true, false, cond, ℤ, refl, ap, ◌∙◌, arith}
 use lib.Signed.{lt_z}
 use Rattle.plain.specs.Machine.{lowest}
 use Rattle.engine.specs.declared.sweeping.Least.{Least}

@@ -1,11 +1,11 @@
 -- What marking keeps, and what it sets.
-use Rattle.std.proofs.Common.{◌≡◌, ℕ, zero, suc, ◌+◌, ◌<◌, ◌≤◌, Bool, true, false, cond, eqb, ◌⊎◌, List, length, get_or, ℤ, ◌+ℤ◌, sym, refl, ap, ◌∙◌, ⊎_elim, arith}
+use Rattle.std.proofs.Common.{◌≡◌, ℕ, zero, suc, ◌+◌, ◌<◌, ◌≤◌, Bool, true, false, cond, eqb, List, length, get_or, ℤ, ◌+ℤ◌, sym, refl, ap, ◌∙◌, ⊎_elim, arith}
 use Rattle.std.specs.Int.{saturate_to_bits}
 use Rattle.std.proofs.lemmas.List.{set_past}
 use Rattle.std.proofs.lemmas.Bool.{cases_eq, cases_lt}
 use Rattle.codes.specs.Pairs.{count_below}
 use Rattle.engine.specs.declared.bit.Bit.{Bit}
-use Rattle.engine.specs.Sweeps.{sum_at, picks_at, marked, mark_places}
+use Rattle.engine.specs.Sweeps.{picks_at, marked, mark_places}
 use Rattle.engine.specs.Turns.{blank, alter}
 use Rattle.engine.proofs.Rows.{alter_length, alter_same, alter_other}
 

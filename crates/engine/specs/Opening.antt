@@ -7,7 +7,7 @@ use Rattle.engine.specs.declared.bit.Bit.{Bit}
 use Rattle.engine.specs.declared.bit.Sign.{Sign}
 use Rattle.engine.specs.declared.bit.Sign.TheVariants.{Met, Unmet}
 use Rattle.engine.specs.Stands.{Fits, StandsFor}
-use Rattle.engine.specs.Turns.{Memory, memory, blank, turned_sign, raise_check}
+use Rattle.engine.specs.Turns.{Memory, blank, turned_sign, raise_check}
 
 -- ---- the levels put down
 -- a level without its sign

@@ -20,6 +20,6 @@ abbrev pub rule_fault : Option (RuleMeaning Mode) → Option Row
 rule_fault None = Some (T 2 0)
 rule_fault (Some m) = None
 
--- why an input is refused before its frames: it is too long, and then it has no first line that means a rule
+-- why an input is refused before its frames: it is too long, or else it has no first line that means a rule
 abbrev pub open_fault : List ℕ → Option Row
 open_fault bs = cond (nat_le (length bs) most_input) (rule_fault (first_rule (lines_from 0 bs))) (Some (T 1 most_input))

@@ -95,6 +95,7 @@ impl<'a> Text<'a> {
         self.begun = true;
         Some(taken)
     }
+
     // The rule that the first line of an input means, in its first state, and the frame lines after
     // it. T1 for an input that is too long; T2 for a first line that is no rule, or none at all.
     pub fn open(input: &'a [u8]) -> Result<(Chosen, Text<'a>), Fault>

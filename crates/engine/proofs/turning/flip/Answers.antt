@@ -1,4 +1,4 @@
-use Rattle.std.proofs.Common.{◌≡◌, ℤ, rules}
+use Rattle.std.proofs.Common.{◌≡◌, rules}
 use Rattle.engine.specs.Turns.{memory, flipped, fallen}
 use Rattle.engine.proofs.Between.{flip_exact}
 use Rattle.engine.proofs.turning.flip.Goals as goal
