@@ -1,8 +1,8 @@
 -- That both sides of a trial come to the same.
-use Rattle.std.proofs.Common.{◌≡◌, ℕ, Bool, ◌⊎◌, List, map, length, ℤ, Some, None, Ok, Err, Option, Result, sym, refl, ap, ◌∙◌, subst, ⊎_elim}
+use Rattle.std.proofs.Common.{◌≡◌, ℕ, Bool, List, map, length, ℤ, Some, None, Ok, Err, Option, Result, sym, ap, ◌∙◌, subst, ⊎_elim}
 use lib.Ieee.{Float}
 use Rattle.faults.specs.declared.Fault.{Fault}
-use Rattle.faults.specs.Rows.{Row, row_of}
+use Rattle.faults.specs.Rows.{row_of}
 use Rattle.codes.specs.Answers.{Answers}
 use Rattle.codes.specs.Lawful.{Lawful}
 use Rattle.codes.specs.Pairs.{Pairs, Codeword}
@@ -18,7 +18,7 @@ use Rattle.decoder.specs.declared.replaying.Replayed.{Replayed}
 use Rattle.decoder.specs.Images.{Negated, Images-alike}
 use Rattle.decoder.specs.Memory.{Held, held, answers_in, held_after}
 use Rattle.decoder.specs.Openings.{open_fault}
-use Rattle.decoder.specs.Replays.{answers_of_replay, Given, Lent, levels_from, opening_fault, opening_of, Replays, SamplesRefused, OpeningRefused, NoRoom, Outcome}
+use Rattle.decoder.specs.Replays.{answers_of_replay, Given, Lent, opening_fault, opening_of, Replays, SamplesRefused, OpeningRefused, NoRoom, Outcome}
 use Rattle.decoder.specs.Trials.{Lasting, SameSizes, SameOutcome, CodewordSymmetry}
 use Rattle.decoder.proofs.Imaged.{quantise_alike, open_alike, runs_alike}
 

@@ -1,10 +1,9 @@
 -- That an opening stands for the plain opening.
-use Rattle.std.proofs.Common.{◌≡◌, ℕ, ◌%◌, ◌<◌, ◌≤◌, Bool, true, false, cond, not, ◌&&◌, eqb, leb, List, length, get_or, ℤ, pos, nat_abs, Some, None, Option, sym, refl, ap, ◌∙◌, arith}
+use Rattle.std.proofs.Common.{◌≡◌, ℕ, ◌%◌, ◌<◌, ◌≤◌, Bool, true, false, cond, ◌&&◌, eqb, leb, List, length, get_or, ℤ, pos, nat_abs, Some, None, Option, sym, refl, ap, ◌∙◌, arith}
 use Rattle.std.proofs.lemmas.Int.{ints}
 use Rattle.std.proofs.lemmas.Bool.{eqb-true, leb-true, not-false, and_parts}
 use Rattle.faults.specs.declared.Fault.{Fault}
-use Rattle.faults.specs.declared.Fault.TheVariants.{FrameSize, LevelRange, WeightRange, LimitRange}
-use Rattle.faults.specs.First.{first}
+use Rattle.faults.specs.declared.Fault.TheVariants.{FrameSize, LevelRange, WeightRange}
 use Rattle.faults.proofs.Firsts.{first_none}
 use Rattle.codes.specs.Answers.{Answers}
 use Rattle.codes.proofs.Absent.{none_some}

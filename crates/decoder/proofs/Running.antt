@@ -10,7 +10,7 @@ use Rattle.plain.specs.declared.call.Verdict.TheVariants.{Decoded, Spent}
 use Rattle.engine.specs.declared.bit.Sign.{Sign}
 use Rattle.engine.specs.Packing.{unmet_signs}
 use Rattle.decoder.specs.declared.frame.Frame.{Frame}
-use Rattle.decoder.specs.Memory.{Held, Reply, reply, verdict_in, run_on, rounded, decoded_in, end_in, ended_at, ended_in}
+use Rattle.decoder.specs.Memory.{Held, reply, verdict_in, run_on, rounded, decoded_in, end_in, ended_at, ended_in}
 
 -- ---- what a verdict tells
 by_tests : (met late : Bool) (v : Verdict) → cond met (Some Decoded) (cond late (Some Spent) None) ≡ Some v → cond met Decoded Spent ≡ v

@@ -1,4 +1,4 @@
-use Rattle.std.proofs.Common.{◌≡◌, true, false, not, sym, ap, ◌∙◌, rules}
+use Rattle.std.proofs.Common.{◌≡◌, true, false, sym, rules}
 use Rattle.faults.proofs.Firsts.{first_more, first_found}
 use Rattle.decoder.specs.Openings.{bad_level}
 use Rattle.decoder.proofs.opening.first_bad_level.Goals as goal

@@ -1,4 +1,4 @@
-use Rattle.std.proofs.Common.{◌≡◌, sym, ap, ◌∙◌, rules}
+use Rattle.std.proofs.Common.{rules}
 use Rattle.decoder.specs.Replays.{given, lent, Replays}
 use Rattle.decoder.proofs.Runs.{replay_from}
 use Rattle.decoder.proofs.replaying.replay.Goals as goal

@@ -1,4 +1,4 @@
-use Rattle.std.proofs.Common.{◌≡◌, Result, sym, subst}
+use Rattle.std.proofs.Common.{Result, sym, subst}
 use Rattle.faults.specs.declared.Fault.{Fault}
 use Rattle.decoder.specs.declared.replaying.Replayed.{Replayed}
 use Rattle.decoder.specs.Replays.{given, lent, Outcome}

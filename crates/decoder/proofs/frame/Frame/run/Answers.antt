@@ -1,5 +1,4 @@
-use Rattle.std.proofs.Common.{◌≡◌, Some, None, sym, refl, ap, ◌∙◌, rules}
-use Rattle.rules.specs.Meaning.{RuleMeaning}
+use Rattle.std.proofs.Common.{◌≡◌, Some, None, refl, ap, ◌∙◌, rules}
 use Rattle.decoder.specs.Memory.{held, verdict_in, rounded}
 use Rattle.decoder.proofs.Running.{begin, one_more, ends}
 use Rattle.decoder.proofs.frame.Frame.run.Goals as goal
