@@ -1,5 +1,5 @@
 -- The ones of the trials are a codeword, by counting them in every check.
-use Rattle.std.proofs.Common.{◌≡◌, ℕ, zero, suc, ◌%◌, ◌<◌, Bool, true, ◌&&◌, eqb, refl}
+use Rattle.std.proofs.Common.{◌≡◌, ℕ, zero, suc, ◌%◌, Bool, true, ◌&&◌, eqb, refl}
 use Rattle.std.proofs.lemmas.Bool.Decides.{Decides-eqb, Decides-below_and}
 use Rattle.codes.specs.Pairs.{ones_in}
 use Rattle.acceptance.specs.Frames.{pairs, is_one, OnesAreCodeword}

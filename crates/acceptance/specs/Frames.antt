@@ -2,7 +2,6 @@
 use Rattle.std.specs.Prelude.{◌≡◌, ℕ, ◌/◌, ◌<◌, Bool, false, cond, ◌||◌, List, [], ◌∷◌, map, length, ℤ, pos, ◌==◌, slice_index_or, Float}
 use Rattle.std.specs.Float.{nan}
 use Rattle.std.specs.Float.Ieee.{neg, eq}
-use Rattle.std.specs.List.{range_with_len}
 use Rattle.codes.specs.Pairs.{Pairs, Codeword}
 use Rattle.circulant.specs.Circles.{circulant_pairs}
 use Rattle.quantiser.specs.Limits.{plus_zero}

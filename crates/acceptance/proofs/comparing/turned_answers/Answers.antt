@@ -1,6 +1,5 @@
-use Rattle.std.proofs.Common.{◌≡◌, ℕ, List, map, vec_items, sym, ◌∙◌, subst, arith}
+use Rattle.std.proofs.Common.{◌≡◌, map, vec_items, sym, ◌∙◌, subst, arith}
 use Rattle.std.proofs.lemmas.Bool.Decides.{not_from_Decides}
-use Rattle.plain.specs.declared.call.Answer.{Answer}
 use Rattle.plain.specs.declared.call.Answer.TheVariants.{Unmet}
 use Rattle.decoder.specs.Replays.{unpacked}
 use Rattle.acceptance.specs.Comparing.{Tallied, Turned, TurnedAt}
