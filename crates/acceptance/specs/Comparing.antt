@@ -1,5 +1,5 @@
 -- In what answers and readings differ. Assumes nothing.
-use Rattle.std.specs.Prelude.{◌≡◌, ℕ, zero, suc, ◌+◌, ◌-◌, ◌/◌, ◌%◌, ◌^◌, ◌<◌, min, Bool, false, cond, not, ◌⊎◌, List, length, Some, None, Option, ◌==◌, slice_index, slice_index_or}
+use Rattle.std.specs.Prelude.{◌≡◌, ℕ, zero, suc, ◌+◌, ◌-◌, ◌/◌, ◌%◌, ◌^◌, ◌<◌, min, Bool, false, cond, not, ◌⊎◌, List, length, ◌==◌, slice_index, slice_index_or}
 use Rattle.plain.specs.declared.call.Answer.{Answer}
 use Rattle.plain.specs.declared.call.Answer.TheVariants.{Unmet, Packed}
 
@@ -8,11 +8,6 @@ use Rattle.plain.specs.declared.call.Answer.TheVariants.{Unmet, Packed}
 abbrev pub Tallied : (ℕ → Type 0) → ℕ → ℕ → Type 0
 Tallied P zero count = count ≡ 0
 Tallied P (suc n) count = (before : ℕ) × Tallied P n before × ((P n × (count ≡ before + 1)) ⊎ ((P n → ⊥) × (count ≡ before)))
-
--- the largest number below n that passes the test
-abbrev pub last : (ℕ → Bool) → ℕ → Option ℕ
-last test zero = None
-last test (suc n) = cond (test n) (Some n) (last test n)
 
 -- ---- readings
 -- bit k of some bytes, the first at the top of the first byte; 0 beyond their end

@@ -1,5 +1,6 @@
 -- What the trials are made of: a code, a codeword of it, and samples with their image. Assumes nothing.
 use Rattle.std.specs.Prelude.{◌≡◌, ℕ, ◌/◌, ◌<◌, Bool, false, cond, ◌||◌, List, [], ◌∷◌, map, length, ℤ, pos, ◌==◌, slice_index_or, Float}
+use Rattle.std.specs.List.{enumerate_from}
 use Rattle.std.specs.Float.{nan}
 use Rattle.std.specs.Float.Ieee.{neg, eq}
 use Rattle.codes.specs.Pairs.{Pairs, Codeword}
@@ -23,6 +24,6 @@ OnesAreCodeword = Codeword pairs is_one
 abbrev pub NonZero : List Float → Type 0
 NonZero xs = (k : ℕ) → k < length xs → eq (slice_index_or xs k nan) plus_zero ≡ false
 
--- the sample at k, negated at a one
-abbrev pub image_at : List Float → ℕ → Float
-image_at xs k = cond (is_one k) (neg (slice_index_or xs k nan)) (slice_index_or xs k nan)
+-- the samples, negated at the ones
+abbrev pub image_of : List Float → List Float
+image_of xs = map (λ p. cond (is_one p.0) (neg p.1) p.1) (enumerate_from 0 xs)

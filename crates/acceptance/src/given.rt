@@ -1,9 +1,9 @@
 // What the frames are made of: a code, a codeword of it, and samples.
-ghost use Rattle.std.specs.Prelude.{◌≡◌, false, map, length, IfOk, vec_len};
+ghost use Rattle.std.specs.Prelude.{◌≡◌, false, map, IfOk, vec_len};
 ghost use Rattle.std.specs.Float.Ieee.{eq};
 ghost use Rattle.std.specs.List.{range_with_len};
 ghost use Rattle.quantiser.specs.Limits.{plus_zero};
-ghost use Rattle.acceptance.specs.Frames.{is_one, OnesAreCodeword, NonZero, image_at};
+ghost use Rattle.acceptance.specs.Frames.{is_one, OnesAreCodeword, NonZero, image_of};
 ghost use Rattle.acceptance.specs.Sides.{Imaged};
 
 use circulant::Circulant;
@@ -40,11 +40,7 @@ fn codeword(heap: Global) -> Result<Vec<bool>, Fault>
     ensures digits { IfOk result (λ v. v.items ≡ map is_one (range_with_len 0 384)) }
     ensures even { OnesAreCodeword }
 {
-    let mut word = Vec::new(heap);
-    for bit in 0..BITS {
-        word.push(is_one(bit))?;
-    }
-    Ok(word)
+    Ok((0..BITS).map(is_one).collect(heap)?)
 }
 
 // Of 256 numbers the first few make a sample that is weak and below zero, and none makes zero.
@@ -66,7 +62,8 @@ fn noisy_zeros(heap: Global) -> Result<Vec<f32>, Fault>
 {
     let mut samples = Vec::new(heap);
     let mut state = 1u32;
-    for _bit in 0..BITS {
+    // Kept: so many times, each sample from the state that the last one left; nothing is indexed.
+    for _ in 0..BITS {
         state = state.wrapping_mul(1_664_525).wrapping_add(1_013_904_223);
         samples.push(sample_of((state >> 24) as u8))?;
     }
@@ -75,14 +72,15 @@ fn noisy_zeros(heap: Global) -> Result<Vec<f32>, Fault>
 
 // The samples, negated at the ones of the codeword.
 fn image(heap: Global, samples: &[f32]) -> Result<Vec<f32>, Fault>
-    ensures { IfOk result (λ v. v.items ≡ map (image_at samples.now) (range_with_len 0 (length samples.now))) }
+    ensures { IfOk result (λ v. v.items ≡ image_of samples.now) }
 {
-    let mut image = Vec::new(heap);
-    for (bit, sample) in samples.iter().enumerate() {
-        let value = if is_one(bit) { -*sample } else { *sample };
-        image.push(value)?;
-    }
-    Ok(image)
+    Ok(
+        samples
+            .iter()
+            .enumerate()
+            .map(|(bit, sample)| if is_one(bit) { -*sample } else { *sample })
+            .collect(heap)?,
+    )
 }
 
 // A code and a quantiser, a codeword, and the samples of a frame and of its image.

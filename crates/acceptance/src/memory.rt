@@ -7,13 +7,6 @@ use engine::{Bit, Sign};
 use faults::Fault;
 use std::alloc::Global;
 
-const BLANK: Bit = Bit {
-    digit: false,
-    level: 0,
-    score: 0,
-    mark: false,
-};
-
 // A place for each level, a record for each bit and a sign for each check.
 #[derive(Drop)]
 pub(crate) struct Memory {
@@ -27,8 +20,8 @@ impl Memory {
         ensures { MatchResult result (λ m. (vec_len m.levels ≡ 384) × (vec_len m.records ≡ 384) × (vec_len m.signs ≡ 144)) (λ e. e ≡ NoMemory) }
     {
         let levels = vec![in heap; 0i8; BITS]?;
-        let records = vec![in heap; BLANK; BITS]?;
-        let signs = vec![in heap; Sign::Met; CHECKS]?;
+        let records = vec![in heap; Bit::default(); BITS]?;
+        let signs = vec![in heap; Sign::default(); CHECKS]?;
         Ok(Memory {
             levels,
             records,

@@ -1,40 +1,17 @@
 // What is printed of a trial.
-use crate::comparing::{
-    differing, equal_answers, first_differing, last_differing, turned, turned_answers,
-};
+use crate::comparing::{Readings, equal_answers, turned_answers};
 use decoder::{Replayed, Trial};
 use faults::Fault;
-use plain::{Answer, Verdict};
-
-fn name_of(verdict: Verdict) -> &'static str {
-    match verdict {
-        Verdict::Decoded => "decoded",
-        Verdict::Spent => "spent",
-    }
-}
-
-// How a decode ended on both sides.
-fn show_decodes(
-    rt: &HostRuntime,
-    verdict: Verdict,
-    rounds: usize,
-    other_verdict: Verdict,
-    other_rounds: usize,
-) -> anyhow::Result<()> {
-    let first = name_of(verdict);
-    let second = name_of(other_verdict);
-    println!(rt; "decode: {first} after {rounds} rounds, the image {second} after {other_rounds}")?;
-    Ok(())
-}
+use plain::Answer;
 
 // In how many of so many bits two readings differ, and between which.
-fn show_readings(rt: &HostRuntime, a: &[u8], b: &[u8], bits: usize) -> anyhow::Result<()> {
-    let count = differing(a, b, bits);
+fn show_readings(rt: &HostRuntime, readings: Readings, bits: usize) -> anyhow::Result<()> {
+    let count = readings.differing(bits);
     print!(rt; "read: {count} bits differ")?;
-    if let Some(first) = first_differing(a, b, bits) {
+    if let Some(first) = readings.first_differing(bits) {
         print!(rt; ", the first {first}")?;
     }
-    if let Some(last) = last_differing(a, b, bits) {
+    if let Some(last) = readings.last_differing(bits) {
         print!(rt; ", the last {last}")?;
     }
     Ok(())
@@ -50,13 +27,17 @@ fn show_call(
 ) -> anyhow::Result<()> {
     match (a, b) {
         (Answer::Ended(u, m), Answer::Ended(v, n)) => {
-            print!(rt; "  call {call}, ")?;
-            show_decodes(rt, *u, *m, *v, *n)
+            println!(rt; "  call {call}, decode: {u} after {m} rounds, the image {v} after {n}")?;
+            Ok(())
         }
         (Answer::Packed(xs), Answer::Packed(ys)) => {
             print!(rt; "  call {call}, ")?;
-            show_readings(rt, xs, ys, word.len())?;
-            let exactly = turned(a, b, word);
+            let readings = Readings {
+                first: xs,
+                second: ys,
+            };
+            show_readings(rt, readings, word.len())?;
+            let exactly = readings.differ_exactly(word);
             println!(rt; "; exactly at the ones of the codeword: {exactly}")?;
             Ok(())
         }

@@ -8,7 +8,7 @@ use crate::given::Given;
 use crate::memory::Memory;
 use crate::recorded::CALLS;
 use customer::{Logged, Stripes};
-use decoder::{Trial, symmetry_trial};
+use decoder::{Side, Trial, symmetry_trial};
 use faults::Fault;
 use noise::{Generator, Noise, Silent};
 use rules::{Chosen, Rule, Single, Switch};
@@ -28,22 +28,23 @@ fn replay_both<R: Rule, Q: Rule, N: Noise, M: Noise>(
 {
     let mut memory = Memory::new(heap)?;
     let mut other_memory = Memory::new(heap)?;
-    symmetry_trial(
-        heap,
-        &given.terms(weight, &CALLS),
+    let side = Side {
         rule,
+        levels: &mut memory.levels,
+        records: &mut memory.records,
+        signs: &mut memory.signs,
         noise,
-        &given.samples,
-        &mut memory.levels,
-        &mut memory.records,
-        &mut memory.signs,
-        other_rule,
-        other_noise,
-        &given.other_samples,
-        &mut other_memory.levels,
-        &mut other_memory.records,
-        &mut other_memory.signs,
-    )
+        samples: &given.samples,
+    };
+    let other = Side {
+        rule: other_rule,
+        levels: &mut other_memory.levels,
+        records: &mut other_memory.records,
+        signs: &mut other_memory.signs,
+        noise: other_noise,
+        samples: &given.other_samples,
+    };
+    symmetry_trial(heap, &given.terms(weight, &CALLS), side, other)
 }
 
 // A chosen switch rule and the same as its own type, with equal generators.

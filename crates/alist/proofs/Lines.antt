@@ -1,10 +1,6 @@
 -- Text that is written number by number and line by line.
-use Rattle.std.proofs.Common.{◌≡◌, ℕ, ◌+◌, max, List, [], ◌∷◌, ◌++◌, append_assoc, add-one}
-use Rattle.codes.specs.Most.{most}
+use Rattle.std.proofs.Common.{◌≡◌, ℕ, ◌+◌, List, [], ◌∷◌, ◌++◌, append_assoc, add-one}
 use Rattle.alist.specs.Text.{number_text, numbers_text, line_text, lines_text}
-
-pub most_more : (f : ℕ → ℕ) (n : ℕ) → most f (n + 1) ≡ max (most f n) (f n)
-most_more f n = rw add-one
 
 -- one number more
 pub number_more : (f : ℕ → ℕ) (n d : ℕ) (t u v : List ℕ) → d ≡ f n → u ≡ t ++ numbers_text f n → v ≡ u ++ number_text n d → v ≡ t ++ numbers_text f (n + 1)

@@ -1,10 +1,10 @@
 -- The alist form of a code: lines of numbers apart by spaces. Assumes nothing.
-use Rattle.std.specs.Prelude.{ℕ, zero, suc, ◌+◌, ◌-◌, ◌^◌, min, cond, List, [], ◌∷◌, ◌++◌, Some, None, decimal, Option, ◌==◌}
+use Rattle.std.specs.Prelude.{ℕ, zero, suc, ◌+◌, ◌-◌, ◌^◌, min, max, cond, fold, List, [], ◌∷◌, ◌++◌, Some, None, decimal, Option, ◌==◌}
+use Rattle.std.specs.List.{range_with_len}
 use Rattle.std.specs.Option.{unwrap_or}
 use Rattle.codes.specs.declared.side.Side.{Side}
 use Rattle.codes.specs.declared.side.Side.TheVariants.{ByCheck, ByBit}
 use Rattle.codes.specs.Answers.{Answers}
-use Rattle.codes.specs.Most.{most}
 
 -- ---- lines of numbers
 -- a number, after a space unless it is the first
@@ -38,7 +38,7 @@ degree_of ByCheck a i = unwrap_or (a.check_degree i) 0
 degree_of ByBit a i = unwrap_or (a.bit_degree i) 0
 
 abbrev pub widest_of : Side → Answers → ℕ
-widest_of s a = most (degree_of s a) (count_of s a)
+widest_of s a = fold (λ widest i. max widest (degree_of s a i)) 0 (range_with_len 0 (count_of s a))
 
 -- numbered from 1, and 0 where there is none
 abbrev pub entry_text : Option ℕ → ℕ

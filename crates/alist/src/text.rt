@@ -24,104 +24,109 @@ fn push_pair(text: &mut String, m: usize, n: usize) -> fmt::Result
     Ok(())
 }
 
-// How many checks or bits there are.
-fn count_of<C: Code>(code: &C, side: Side) -> usize
-    ensures { result ≡ count_of side (C.Code.answers code.now) }
-{
-    match side {
-        Side::ByCheck => code.checks(),
-        Side::ByBit => code.bits(),
-    }
-}
-
-fn degree_of<C: Code>(code: &C, side: Side, at: usize) -> usize
-    ensures { result ≡ degree_of side (C.Code.answers code.now) at }
-{
-    match side {
-        Side::ByCheck => code.check_degree(at).unwrap_or(0),
-        Side::ByBit => code.bit_degree(at).unwrap_or(0),
-    }
-}
-
 // Numbered from 1, and 0 where there is none.
 fn entry(found: Option<usize>) -> usize
     ensures { result ≡ entry_text found }
 {
-    match found {
-        Some(x) => x.saturating_add(1),
-        None => 0,
-    }
+    found.map_or(0, |x| x.saturating_add(1))
 }
 
-fn entry_of<C: Code>(code: &C, side: Side, at: usize, place: usize) -> usize
-    ensures { result ≡ entry_of side (C.Code.answers code.now) at place }
-{
-    match side {
-        Side::ByCheck => entry(code.check_bit(at, place)),
-        Side::ByBit => entry(code.bit_check(at, place)),
-    }
-}
-
-// The largest degree.
-fn widest_of<C: Code>(code: &C, side: Side) -> usize
-    ensures { result ≡ widest_of side (C.Code.answers code.now) }
-{
-    let mut widest = 0usize;
-    for at in 0..count_of(code, side) {
-        widest = widest.max(degree_of(code, side, at));
-    }
-    widest
-}
-
-fn push_degrees<C: Code>(text: &mut String, code: &C, side: Side) -> fmt::Result
-    ensures { OnOk result (string_bytes text.new ≡ string_bytes text.old ++ degrees_text side (C.Code.answers code.now)) }
-{
-    for at in 0..count_of(code, side) {
-        push_number(text, at, degree_of(code, side, at))?;
-    }
-    writeln!(text, "")?;
-    Ok(())
-}
-
-// The numbers of one check or bit, filled up with 0.
-fn push_list<C: Code>(
-    text: &mut String,
-    code: &C,
+// A code, by its checks or by its bits.
+#[derive_where(Clone, Copy)]
+struct View<'a, C> {
+    code: &'a C,
     side: Side,
-    at: usize,
-    width: usize,
-) -> fmt::Result
-    ensures { OnOk result (string_bytes text.new ≡ string_bytes text.old ++ line_text (entry_of side (C.Code.answers code.now) at) width) }
-{
-    for place in 0..width {
-        push_number(text, place, entry_of(code, side, at, place))?;
-    }
-    writeln!(text, "")?;
-    Ok(())
 }
 
-fn push_lists<C: Code>(text: &mut String, code: &C, side: Side) -> fmt::Result
-    ensures { OnOk result (string_bytes text.new ≡ string_bytes text.old ++ lists_text side (C.Code.answers code.now)) }
-{
-    let width = widest_of(code, side);
-    for at in 0..count_of(code, side) {
-        push_list(text, code, side, at, width)?;
+impl<C: Code> View<'_, C> {
+    // How many checks or bits there are.
+    fn count(&self) -> usize
+        ensures { result ≡ count_of self.now.side (C.Code.answers self.now.code.now) }
+    {
+        match self.side {
+            Side::ByCheck => self.code.checks(),
+            Side::ByBit => self.code.bits(),
+        }
     }
-    Ok(())
+
+    fn degree(&self, at: usize) -> usize
+        ensures { result ≡ degree_of self.now.side (C.Code.answers self.now.code.now) at }
+    {
+        match self.side {
+            Side::ByCheck => self.code.check_degree(at).unwrap_or(0),
+            Side::ByBit => self.code.bit_degree(at).unwrap_or(0),
+        }
+    }
+
+    fn entry(&self, at: usize, place: usize) -> usize
+        ensures { result ≡ entry_of self.now.side (C.Code.answers self.now.code.now) at place }
+    {
+        match self.side {
+            Side::ByCheck => entry(self.code.check_bit(at, place)),
+            Side::ByBit => entry(self.code.bit_check(at, place)),
+        }
+    }
+
+    // The largest degree.
+    fn widest(&self) -> usize
+        ensures { result ≡ widest_of self.now.side (C.Code.answers self.now.code.now) }
+    {
+        (0..self.count()).fold(0, |widest, at| widest.max(self.degree(at)))
+    }
+
+    // The degrees of all.
+    // Kept: by number, as a code is asked; and one function for this and push_list would take a closure and a clause on it.
+    fn push_degrees(&self, text: &mut String) -> fmt::Result
+        ensures { OnOk result (string_bytes text.new ≡ string_bytes text.old ++ degrees_text self.now.side (C.Code.answers self.now.code.now)) }
+    {
+        for at in 0..self.count() {
+            push_number(text, at, self.degree(at))?;
+        }
+        writeln!(text, "")?;
+        Ok(())
+    }
+
+    // The numbers of one check or bit, filled up with 0.
+    // Kept: by number, as a code is asked, with nothing else to walk.
+    fn push_list(&self, text: &mut String, at: usize, width: usize) -> fmt::Result
+        ensures { OnOk result (string_bytes text.new ≡ string_bytes text.old ++ line_text (entry_of self.now.side (C.Code.answers self.now.code.now) at) width) }
+    {
+        for place in 0..width {
+            push_number(text, place, self.entry(at, place))?;
+        }
+        writeln!(text, "")?;
+        Ok(())
+    }
+
+    // The numbers of all.
+    // Kept: by number, as a code is asked, with nothing else to walk.
+    fn push_lists(&self, text: &mut String) -> fmt::Result
+        ensures { OnOk result (string_bytes text.new ≡ string_bytes text.old ++ lists_text self.now.side (C.Code.answers self.now.code.now)) }
+    {
+        let width = self.widest();
+        for at in 0..self.count() {
+            self.push_list(text, at, width)?;
+        }
+        Ok(())
+    }
 }
 
 // The code in alist form, after what the text holds.
 pub fn push_alist<C: Code>(text: &mut String, code: &C) -> fmt::Result
     ensures { OnOk result (string_bytes text.new ≡ string_bytes text.old ++ alist_text (C.Code.answers code.now)) }
 {
-    push_pair(text, code.bits(), code.checks())?;
-    push_pair(
-        text,
-        widest_of(code, Side::ByBit),
-        widest_of(code, Side::ByCheck),
-    )?;
-    push_degrees(text, code, Side::ByBit)?;
-    push_degrees(text, code, Side::ByCheck)?;
-    push_lists(text, code, Side::ByBit)?;
-    push_lists(text, code, Side::ByCheck)
+    let bits = View {
+        code,
+        side: Side::ByBit,
+    };
+    let checks = View {
+        code,
+        side: Side::ByCheck,
+    };
+    push_pair(text, bits.count(), checks.count())?;
+    push_pair(text, bits.widest(), checks.widest())?;
+    bits.push_degrees(text)?;
+    checks.push_degrees(text)?;
+    bits.push_lists(text)?;
+    checks.push_lists(text)
 }

@@ -1,5 +1,5 @@
 -- What the sizes of a grid that fits are.
-use Rattle.std.proofs.Common.{◌≡◌, ℕ, ◌*◌, ◌≤◌, true, ◌&&◌, eqb, leb, mul-le-mul, mul-le-mul_left, mul-one, arith}
+use Rattle.std.proofs.Common.{◌≡◌, ℕ, ◌*◌, ◌≤◌, true, ◌&&◌, eqb, leb, mul-le-mul_left, mul-one, arith}
 use Rattle.std.proofs.lemmas.Bool.{and_parts, leb-true, eqb-true}
 use Rattle.circulant.specs.Circles.{grid_fits}
 use Rattle.codes.specs.Limits.{most_bits, most_checks, most_size, sizes_fit}
@@ -8,13 +8,6 @@ use Rattle.codes.proofs.Limiting.{limits}
 -- a factor is no larger than the product
 pub factor_le : (n size : ℕ) → 1 ≤ size → n ≤ n * size
 factor_le n size h = omega (arith, mul-one n, mul-le-mul_left n h)
-
--- so the cells of a grid can be counted
-pub few_cells : (rows columns size : ℕ) → 1 ≤ size → columns * size ≤ most_bits → rows * size ≤ most_checks → rows * columns ≤ most_checks * most_bits
-few_cells rows columns size some hb hc =
-    let r : rows ≤ most_checks = omega (arith, factor_le rows size some) in
-    let c : columns ≤ most_bits = omega (arith, factor_le columns size some) in
-    mul-le-mul r c
 
 pub record Fitted (rows columns size count : ℕ) : Type 0 where
   pub some : 1 ≤ size

@@ -1,6 +1,4 @@
-pub mod Turning
-pub mod Building
-pub mod Held
 pub mod Fitting
+pub mod Filtering
 pub mod Circling
 pub mod Accepting

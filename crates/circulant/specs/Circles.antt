@@ -1,9 +1,9 @@
 -- The making of a circulant code: its pairs, and what is refused of a grid of cells. Assumes nothing.
-use Rattle.std.specs.Prelude.{◌≡◌, ℕ, ◌+◌, ◌*◌, ◌/◌, ◌%◌, Bool, false, cond, not, ◌&&◌, List, length, ℤ, pos, negsuc, Some, None, Option, ◌==◌, nat_le, nat_lt, slice_index_or}
+use Rattle.std.specs.Prelude.{◌≡◌, ℕ, ◌+◌, ◌*◌, ◌/◌, ◌%◌, Bool, false, cond, not, ◌&&◌, List, length, ℤ, pos, negsuc, Some, None, Option, ◌==◌, nat_le, nat_lt, position, slice_index_or}
 use Rattle.faults.specs.Rows.{Row, C}
 use Rattle.codes.specs.Answers.{Answers}
 use Rattle.codes.specs.Degrees.{degree_fault}
-use Rattle.faults.specs.First.{first, fault_at}
+use Rattle.faults.specs.First.{fault_at}
 use Rattle.codes.specs.Lawful.{Lawful}
 use Rattle.codes.specs.Limits.{most_size, sizes_fit}
 use Rattle.codes.specs.Pairs.{Pairs}
@@ -38,12 +38,12 @@ circulant_pairs rows columns size cells = record { bits = columns * size; checks
 abbrev pub grid_fits : ℕ → ℕ → ℕ → ℕ → Bool
 grid_fits rows columns size count = (nat_le 1 size && nat_le size most_size) && (sizes_fit (columns * size) (rows * size) && count == rows * columns)
 
-abbrev pub bad_cell : ℕ → List ℤ → ℕ → Bool
-bad_cell size cells i = not (cell_fits size (slice_index_or cells i (pos 0)))
+abbrev pub bad_cell : ℕ → ℤ → Bool
+bad_cell size cell = not (cell_fits size cell)
 
 -- the faults in their order: sizes, cells, checks and bits with too few or too many
 abbrev pub circulant_fault : ℕ → ℕ → ℕ → List ℤ → Option Row
-circulant_fault rows columns size cells = cond (grid_fits rows columns size (length cells)) (fault_at (C 2) (first (bad_cell size cells) (length cells)) (degree_fault (circulant_pairs rows columns size cells))) (Some (C 1 0))
+circulant_fault rows columns size cells = cond (grid_fits rows columns size (length cells)) (fault_at (C 2) (position (bad_cell size) cells) (degree_fault (circulant_pairs rows columns size cells))) (Some (C 1 0))
 
 -- a is what a grid means, that was not refused
 pub record MadeCirculant (rows columns size : ℕ) (cells : List ℤ) (a : Answers) : Type 0 where

@@ -1,5 +1,8 @@
 -- How many numbers below a bound are in a set, and how many a list of them has.
-use Rattle.std.proofs.Common.{◌≡◌, ℕ, zero, suc, ◌+◌, ◌<◌, ◌≤◌, Bool, true, false, cond, Some, Option, sym, refl, ap, ◌∙◌, ⊎_elim, arith}
+use Rattle.std.proofs.Common.{◌≡◌, ℕ, zero, suc, ◌+◌, ◌<◌, ◌≤◌, Bool, true, false, cond, List, [], ◌∷◌, length, get_or, count_by, Some, Option, sym, refl, ap, ◌∙◌, ⊎_elim, arith}
+use Rattle.std.specs.List.{range_with_len}
+use Rattle.std.proofs.lemmas.List.Sums.{sum_by-cons}
+use Rattle.std.proofs.lemmas.List.FromFn.{length-range_with_len, get_or-range_with_len}
 use Rattle.std.proofs.lemmas.Bool.{cases_eq, cases_lt, cases_Bool}
 use Rattle.codes.specs.Lawful.{Lists}
 use Rattle.codes.specs.Pairs.{count_below}
@@ -101,3 +104,25 @@ count_one_more (suc n) k f g h out into other =
     rw (fo, gi, count_same n g f (λ i l. other i (λ e. omega arith))) (omega arith))
     (λ (apart : k ≡ n → ⊥). rw (count_one_more n k f g (omega arith) out into other, other n (λ e. apart (sym e))) (omega arith))
     (cases_eq k n)
+
+-- ---- counts of a list and of a range, as counts of numbers
+first_out : (n : ℕ) (has : ℕ → Bool) → count_below (suc n) has ≡ cond (has 0) 1 0 + count_below n (λ i. has (suc i))
+first_out zero has = omega arith
+first_out (suc n) has = let e = first_out n has in omega arith
+
+pub count_by_below : {X : Type 0} (p : X → Bool) (d : X) (xs : List X) → count_by p xs ≡ count_below (length xs) (λ i. p (get_or xs i d))
+count_by_below p d [] = refl
+count_by_below p d (x ∷ xs) =
+    let rest : cond (p x) 1 0 + count_by p xs ≡ cond (p x) 1 0 + count_below (length xs) (λ i. p (get_or xs i d)) = ap (λ n. cond (p x) 1 0 + n) (count_by_below p d xs) in
+    let all : count_by p (x ∷ xs) ≡ cond (p x) 1 0 + count_by p xs = sum_by-cons (λ y. cond (p y) 1 0) x xs in
+    let size : length (x ∷ xs) ≡ suc (length xs) = omega arith in
+    all ∙ rest ∙ sym (first_out (length xs) (λ i. p (get_or (x ∷ xs) i d))) ∙ ap (λ n. count_below n (λ i. p (get_or (x ∷ xs) i d))) (sym size)
+
+pub count_by_range : (has : ℕ → Bool) (n : ℕ) → count_by has (range_with_len 0 n) ≡ count_below n has
+count_by_range has n = count_by_below has 0 (range_with_len 0 n) ∙ rw (length-range_with_len 0 n) (same_below has n n (omega arith))
+  where
+    same_below : (has : ℕ → Bool) (n m : ℕ) → m ≤ n → count_below m (λ i. has (get_or (range_with_len 0 n) i 0)) ≡ count_below m has
+    same_below has n zero h = refl
+    same_below has n (suc m) h =
+        let e : get_or (range_with_len 0 n) m 0 ≡ m = omega (arith, get_or-range_with_len 0 n m 0 (omega arith)) in
+        rw (same_below has n m (omega arith), e)

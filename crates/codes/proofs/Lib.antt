@@ -1,6 +1,5 @@
 pub mod Absent
 pub mod Limiting
-pub mod Mosts
 pub mod Sizes
 pub mod Images
 pub mod Counts

@@ -2,10 +2,10 @@ pub mod Limits
 pub mod Pairs
 pub mod Answers
 pub mod Lawful
-pub mod Most
 pub mod Degrees
-pub mod Compact
+pub mod Lists
 pub mod Cross
 pub mod Agree
 pub mod Linear
 pub mod Means
+pub mod Sides

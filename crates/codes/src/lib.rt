@@ -8,14 +8,12 @@ mod matrix;
 mod product;
 mod shape;
 mod side;
-mod table;
 
 pub use code::Code;
 pub use laws::{codewords_add, lists_agree};
 pub use limits::{
     MOST_BIT_DEGREE, MOST_BITS, MOST_CHECK_DEGREE, MOST_CHECKS, MOST_SIZE, STRIDE, sizes_fit,
 };
-pub use matrix::Matrix;
+pub use matrix::{AsMatrix, Matrix};
 pub use product::Product;
 pub use side::Side;
-pub use table::Table;

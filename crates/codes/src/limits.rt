@@ -19,5 +19,5 @@ pub const STRIDE: usize = 4_096;
 pub fn sizes_fit(bits: usize, checks: usize) -> bool
     ensures { result ≡ sizes_fit bits checks }
 {
-    (1 <= bits && bits <= MOST_BITS) && (1 <= checks && checks <= MOST_CHECKS)
+    (1..=MOST_BITS).contains(&bits) && (1..=MOST_CHECKS).contains(&checks)
 }

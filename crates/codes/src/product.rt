@@ -42,10 +42,7 @@ fn in_column(
 fn added_sizes(first: Option<usize>, second: Option<usize>) -> Option<usize>
     ensures { result ≡ added first second }
 {
-    match (first, second) {
-        (Some(x), Some(y)) => x.checked_add(y),
-        _ => None,
-    }
+    first?.checked_add(second?)
 }
 
 // The product of two codes, which it holds: a grid of bits, with a row of the second for each bit of

@@ -7,7 +7,7 @@ use std::alloc::Global;
 
 // Flips the lowest alone, and writes down each objective that it is told, where there is memory.
 // What it writes down is left open: a rule's contract pins its state and its meaning, and no more.
-#[derive(Drop)]
+#[derive(Debug, Drop, PartialEq, Eq)]
 pub struct Logged {
     objectives: Vec<i32>,
 }

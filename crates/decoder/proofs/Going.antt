@@ -1,5 +1,5 @@
 -- A list of calls on its way: what is answered, and what is left to answer.
-use Rattle.std.proofs.Common.{◌≡◌, ℕ, ◌+◌, ◌<◌, ◌≤◌, List, [], ◌∷◌, ◌++◌, length, get_or, drop, ℤ, sym, refl, ap, ◌∙◌, append_assoc, append-nil}
+use Rattle.std.proofs.Common.{◌≡◌, ℕ, ◌+◌, ◌<◌, ◌≤◌, List, [], ◌∷◌, ◌++◌, length, get_or, drop, ℤ, sym, ap, ◌∙◌, append_assoc, append-nil}
 use Rattle.std.proofs.lemmas.List.{drop_more, drop_all}
 use Rattle.codes.specs.Answers.{Answers}
 use Rattle.rules.specs.Meaning.{RuleMeaning}
@@ -12,9 +12,6 @@ module _ {S : Type 0} (m : RuleMeaning S) (noise : ℕ → ℕ → ℤ) (a : Ans
   pub record Going (i : ℕ) (done : List (Answer (List ℕ))) (now : Held S) : Type 0 where
     pub answered : done ++ answers_in m noise a (drop i cs) now ≡ answers_in m noise a cs start
     pub led : held_after m noise a (drop i cs) now ≡ held_after m noise a cs start
-
-  pub going_none : Going 0 [] start
-  going_none = record { answered = refl; led = refl }
 
   -- one call more; the rule's meaning may go by another name
   pub going_on : (i : ℕ) (done : List (Answer (List ℕ))) (now : Held S) (d : Call) → Going i done now → i < length cs → (o : RuleMeaning S) → o ≡ m → (x : Answer (List ℕ)) (done' : List (Answer (List ℕ))) (next : Held S) → reply x next ≡ step_in o noise a (get_or cs i d) now → done' ≡ done ++ (x ∷ []) → Going (i + 1) done' next

@@ -7,7 +7,7 @@ use Rattle.std.proofs.lemmas.Int.{ints}
 use Rattle.std.proofs.lemmas.Bool.{cond-true, cond-false, cases_Bool, cases_lt, and_parts, and_from, lt-ltb, le-ltb, ltb-true, le-leb, eq-eqb}
 use Rattle.faults.specs.First.{fault_at}
 use Rattle.faults.specs.Rows.{Row, Q}
-use Rattle.faults.proofs.Firsts.{first_none, first_all, first_same}
+use Rattle.faults.proofs.Firsts.{first_none, first_all, first_same, position_first}
 use Rattle.codes.specs.Answers.{Answers}
 use Rattle.codes.specs.Lawful.{Lawful}
 use Rattle.codes.specs.Pairs.{Pairs, Codeword}
@@ -38,7 +38,7 @@ use Rattle.engine.specs.Turns.{blank}
 use Rattle.engine.proofs.Packs.{packed_same}
 use Rattle.decoder.specs.Images.{Negated, Images-alike}
 use Rattle.decoder.specs.Memory.{Core, held_after, answers_in}
-use Rattle.decoder.specs.Openings.{level_fits, bad_level, first_bad_level, open_fault, opened_in}
+use Rattle.decoder.specs.Openings.{level_fits, first_bad_level, open_fault, opened_in}
 use Rattle.decoder.specs.Replays.{frame_of}
 use Rattle.decoder.specs.Standing.{Stands}
 use Rattle.decoder.proofs.Opened.{allowed}
@@ -93,7 +93,8 @@ module _ (q : Quantiser) where
   -- every one fits
   none_bad : (xs : List Float) → first_bad_level (levels_of xs) ≡ None
   none_bad xs =
-      first_all (bad_level (levels_of xs)) (length (levels_of xs))
+      position_first (λ y. not (level_fits y)) (pos 0) (levels_of xs)
+      ∙ first_all (λ i. not (level_fits (get_or (levels_of xs) i (pos 0)))) (length (levels_of xs))
       (λ k l. let i : k < length xs = omega (arith, length-map xs (level_of q.shape)) in rw (level_at xs k i, level_fits_lem q (get_or xs k nan)))
 
   -- none is 0

@@ -1,10 +1,10 @@
 -- That an opening stands for the plain opening.
-use Rattle.std.proofs.Common.{◌≡◌, ℕ, ◌%◌, ◌<◌, ◌≤◌, Bool, true, false, cond, ◌&&◌, eqb, leb, List, length, get_or, ℤ, pos, nat_abs, Some, None, Option, sym, refl, ap, ◌∙◌, arith}
+use Rattle.std.proofs.Common.{◌≡◌, ℕ, ◌%◌, ◌<◌, ◌≤◌, Bool, true, false, cond, not, ◌&&◌, eqb, leb, List, length, get_or, ℤ, pos, nat_abs, Some, None, Option, sym, refl, ap, ◌∙◌, arith}
 use Rattle.std.proofs.lemmas.Int.{ints}
 use Rattle.std.proofs.lemmas.Bool.{eqb-true, leb-true, not-false, and_parts}
 use Rattle.faults.specs.declared.Fault.{Fault}
 use Rattle.faults.specs.declared.Fault.TheVariants.{FrameSize, LevelRange, WeightRange}
-use Rattle.faults.proofs.Firsts.{first_none}
+use Rattle.faults.proofs.Firsts.{first_none, position_first}
 use Rattle.codes.specs.Answers.{Answers}
 use Rattle.codes.proofs.Absent.{none_some}
 use Rattle.rules.specs.Meaning.{RuleMeaning}
@@ -15,7 +15,7 @@ use Rattle.engine.specs.Opening.{filled}
 use Rattle.engine.specs.Stands.{Fits, StandsFor}
 use Rattle.engine.proofs.Opens.{fill_exact, fill_unmarked}
 use Rattle.decoder.specs.Memory.{unlike}
-use Rattle.decoder.specs.Openings.{level_fits, bad_level, first_bad_level, level_fault, weight_fault, limit_fault, open_fault, opened_in, OpenedExactly}
+use Rattle.decoder.specs.Openings.{level_fits, first_bad_level, level_fault, weight_fault, limit_fault, open_fault, opened_in, OpenedExactly}
 
 -- ---- what follows where nothing is refused
 like : (b : Bool) (e : Fault) (next : Option Fault) → cond b next (Some e) ≡ None → (b ≡ true) × (next ≡ None)
@@ -53,7 +53,7 @@ allowed a ys w limit records signs h =
       levels = p.0;
       bits = q.0;
       checks = r.0;
-      small = λ k i. level_small (get_or ys k (pos 0)) (not-false _ (first_none (bad_level ys) (length ys) l.0 k i));
+      small = λ k i. level_small (get_or ys k (pos 0)) (not-false _ (first_none (λ j. not (level_fits (get_or ys j (pos 0)))) (length ys) (sym (position_first (λ y. not (level_fits y)) (pos 0) ys) ∙ l.0) k i));
       weight = leb-true w most_weight (and_parts (leb 1 w) (leb w most_weight) v.0).1;
     }
 

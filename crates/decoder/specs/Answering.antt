@@ -8,35 +8,36 @@ use Rattle.decoder.specs.declared.frame.Turn.{Turn}
 use Rattle.decoder.specs.declared.frame.Turn.TheVariants.{Stopped as TurnStopped, Flipped as TurnFlipped}
 use Rattle.decoder.specs.declared.frame.Weights.{Weights}
 
-abbrev pub turn_answer : Turn → Answer (List ℕ)
+abbrev pub turn_answer : {B : Type 0} → Turn → Answer B
 turn_answer (TurnStopped v) = Stopped v
 turn_answer (TurnFlipped n) = Flipped n
 
-abbrev pub ended_answer : EndedIs → Answer (List ℕ)
+abbrev pub ended_answer : {B : Type 0} → EndedIs → Answer B
 ended_answer r = Ended r.verdict r.rounds
 
--- each result, or else its fault
+abbrev pub weights_answer : {B : Type 0} → Weights → Answer B
+weights_answer x = Weighed x.score x.objective x.gain
+
+-- what a result comes to, or else its fault
+abbrev pub answered : {T : Type 0} → (T → Answer (List ℕ)) → Result T Fault → Answer (List ℕ)
+answered f (Ok x) = f x
+answered f (Err e) = Refused e
+
 abbrev pub round_answer : Result Turn Fault → Answer (List ℕ)
-round_answer (Ok t) = turn_answer t
-round_answer (Err e) = Refused e
+round_answer = answered turn_answer
 
 abbrev pub decode_answer : Result EndedIs Fault → Answer (List ℕ)
-decode_answer (Ok r) = ended_answer r
-decode_answer (Err e) = Refused e
+decode_answer = answered ended_answer
 
 abbrev pub toggle_answer : Result ℤ Fault → Answer (List ℕ)
-toggle_answer (Ok x) = Toggled x
-toggle_answer (Err e) = Refused e
+toggle_answer = answered Toggled
 
 abbrev pub weigh_answer : Result Weights Fault → Answer (List ℕ)
-weigh_answer (Ok x) = Weighed x.score x.objective x.gain
-weigh_answer (Err e) = Refused e
+weigh_answer = answered weights_answer
 
 abbrev pub unmet_answer : Result ℕ Fault → Answer (List ℕ)
-unmet_answer (Ok n) = Unmet n
-unmet_answer (Err e) = Refused e
+unmet_answer = answered Unmet
 
 -- a reading, with the bytes that it left
 abbrev pub read_answer : Result (Unit {0}) Fault → List ℕ → Answer (List ℕ)
-read_answer (Ok u) bytes = Packed bytes
-read_answer (Err e) bytes = Refused e
+read_answer r bytes = answered (λ u. Packed bytes) r

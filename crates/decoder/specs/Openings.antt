@@ -1,8 +1,7 @@
 -- What an opening refuses, and what it leaves otherwise, whatever memory it is given. Assumes nothing.
-use Rattle.std.specs.Prelude.{◌≡◌, ℕ, ◌%◌, ◌<◌, Bool, cond, not, ◌&&◌, List, length, ℤ, pos, Some, None, Option, ◌==◌, nat_le, slice_index_or, unsigned_abs}
+use Rattle.std.specs.Prelude.{◌≡◌, ℕ, ◌%◌, ◌<◌, Bool, cond, not, ◌&&◌, List, length, ℤ, pos, Some, None, Option, ◌==◌, nat_le, position, slice_index_or, unsigned_abs}
 use Rattle.faults.specs.declared.Fault.{Fault}
 use Rattle.faults.specs.declared.Fault.TheVariants.{LevelRange, WeightRange, LimitRange}
-use Rattle.faults.specs.First.{first}
 use Rattle.codes.specs.Answers.{Answers}
 use Rattle.codes.specs.Lawful.{Lawful}
 use Rattle.rules.specs.Meaning.{RuleMeaning}
@@ -23,11 +22,9 @@ most_limit = 1000
 abbrev pub level_fits : ℤ → Bool
 level_fits y = nat_le (unsigned_abs y) most_level && unsigned_abs y % 2 == 1
 
-abbrev pub bad_level : List ℤ → ℕ → Bool
-bad_level ys i = not (level_fits (slice_index_or ys i (pos 0)))
-
+-- the least index of one that does not fit
 abbrev pub first_bad_level : List ℤ → Option ℕ
-first_bad_level ys = first (bad_level ys) (length ys)
+first_bad_level ys = position (λ y. not (level_fits y)) ys
 
 abbrev pub level_fault : Option ℕ → Option Fault → Option Fault
 level_fault None next = next

@@ -1,5 +1,6 @@
 -- What holds after every list of calls on an opened frame, for every lawful code. Assumes nothing.
 use Rattle.std.specs.Prelude.{◌≡◌, ℕ, ◌⊎◌, List, ◌++◌, map, length, ℤ, pos, ◌-ℤ◌, ◌*ℤ◌, neg_ℤ, Some, None, Ok, Err, vec_items, Option, Result, slice_index_or, Float}
+use Rattle.std.specs.Borrow.{MutBor}
 use Rattle.faults.specs.declared.Fault.{Fault}
 use Rattle.faults.specs.declared.Fault.TheVariants.{NoMemory}
 use Rattle.faults.specs.Rows.{row_of}
@@ -18,6 +19,7 @@ use Rattle.quantiser.specs.Runs.{quantise_fault}
 use Rattle.engine.specs.declared.bit.Bit.{Bit}
 use Rattle.engine.specs.declared.bit.Sign.{Sign}
 use Rattle.decoder.specs.declared.replaying.Replayed.{Replayed}
+use Rattle.decoder.specs.declared.replaying.Side.{Side}
 use Rattle.decoder.specs.declared.replaying.Terms.{Terms}
 use Rattle.decoder.specs.Memory.{Held, held, Performed}
 use Rattle.decoder.specs.Openings.{open_fault, opened_in}
@@ -76,6 +78,14 @@ pub record Lent (S : Type 0) : Type 0 where
 
 abbrev pub lent : {S : Type 0} → List ℤ → List Bit → List Sign → S → Lent S
 lent ys rs ss u = record { levels = ys; records = rs; signs = ss; rule = u }
+
+-- what a side lends, as it was handed over
+abbrev pub handed : {R N S : Type 0} → (R → S) → Side R N → Lent S
+handed state s = lent s.levels.now s.records.now s.signs.now (state s.rule.now)
+
+-- and as it was left; of the rest, T, nothing can be changed
+abbrev pub left : {R S T : Type 0} → (R → S) → MutBor R × (MutBor (List ℤ) × (MutBor (List Bit) × (MutBor (List Sign) × T))) → Lent S
+left state x = lent x.1.0.now x.1.1.0.now x.1.1.1.0.now (state x.0.now)
 
 abbrev pub levels_from : Given → List Float → List ℤ
 levels_from t xs = map (level_of t.shape) xs

@@ -1,56 +1,60 @@
 // The calls on an open frame.
-ghost use Rattle.std.specs.Prelude.{◌≡◌, length, None, Option, OnErr};
-ghost use Rattle.plain.specs.Machine.{bytes_for};
+ghost use Rattle.std.specs.Prelude.{◌≡◌, ◌≢◌, length, Some, None, OnErr, MatchResult};
+ghost use Rattle.faults.specs.declared.Fault.TheVariants.{FrameSize};
 ghost use Rattle.plain.specs.declared.call.Call.TheVariants.{Round, Decode};
 ghost use Rattle.decoder.specs.Answering.{ended_answer, round_answer, decode_answer, toggle_answer, weigh_answer, unmet_answer, read_answer};
-ghost use Rattle.decoder.specs.Memory.{core, held, reply, said, unlike, sizes_fault, bit_fault, or_fault, verdict_in, rounded, flips_in, ended_in, step_in, toggled_in, weighed_in, unmet_in, read_fault, read_in};
+ghost use Rattle.decoder.specs.Memory.{core, held, reply, said, sizes_fault, bit_fault, verdict_in, rounded, flips_in, ended_in, step_in, toggled_in, weighed_in, unmet_in, read_fault, read_in};
 ghost use Rattle.decoder.specs.Standing.{StepsExactly, TogglesExactly, WeighsExactly, CountsExactly, ReadsExactly};
 
 use crate::frame::{Ended, Frame, Turn, Weights};
 use codes::Code;
-use engine::{Bit, Sign, flip, pack, score_at, sweep, unmet};
+use engine::{Bit, Sign, Weighted, pack, score_at, unmet};
 use faults::Fault;
 use noise::Noise;
 use plain::Verdict;
 use rules::Rule;
 
-// A size that is not the one needed, or else the next fault.
-pub(crate) fn unlike_size(given: usize, needed: usize, next: Option<Fault>) -> Option<Fault>
-    ensures { result ≡ unlike given needed next }
+// Refuses a size that is not the one needed.
+pub(crate) fn check_size(given: usize, needed: usize) -> Result<(), Fault>
+    ensures { MatchResult result (λ _. given ≡ needed) (λ e. (given ≢ needed) × (e ≡ FrameSize given)) }
 {
     if given == needed {
-        next
+        Ok(())
     } else {
-        Some(Fault::FrameSize(given))
+        Err(Fault::FrameSize(given))
     }
-}
-
-// How many bytes so many bits are packed into.
-fn bytes_for(bits: usize) -> usize
-    ensures { result ≡ bytes_for bits }
-{
-    bits.div_ceil(8)
 }
 
 impl Frame {
-    // The first size that is not the frame's.
-    fn sizes_fault<C: Code>(&self, code: &C, records: usize, signs: usize) -> Option<Fault>
-        ensures { result ≡ sizes_fault self.now (C.Code.answers code.now) records signs }
+    // Refuses the first size that is not the frame's.
+    fn check_sizes<C: Code>(&self, code: &C, records: usize, signs: usize) -> Result<(), Fault>
+        ensures { MatchResult result (λ _. sizes_fault self.now (C.Code.answers code.now) records signs ≡ None) (λ e. sizes_fault self.now (C.Code.answers code.now) records signs ≡ Some e) }
     {
-        let checks = unlike_size(code.checks(), self.checks, None);
-        let bits = unlike_size(code.bits(), self.bits, checks);
-        let signs = unlike_size(signs, self.checks, bits);
-        unlike_size(records, self.bits, signs)
+        check_size(records, self.bits)?;
+        check_size(signs, self.checks)?;
+        check_size(code.bits(), self.bits)?;
+        check_size(code.checks(), self.checks)
     }
 
-    // That there is no such bit.
-    fn bit_fault(&self, bit: usize) -> Option<Fault>
-        ensures { result ≡ bit_fault self.now bit }
+    // Refuses a bit that there is not.
+    fn check_bit(&self, bit: usize) -> Result<(), Fault>
+        ensures { MatchResult result (λ _. bit_fault self.now bit ≡ None) (λ e. bit_fault self.now bit ≡ Some e) }
     {
         if bit < self.bits {
-            None
+            Ok(())
         } else {
-            Some(Fault::NoSuchBit(bit))
+            Err(Fault::NoSuchBit(bit))
+        }
+    }
+
+    // The code, with the frame's weight at each check.
+    fn weighted<'a, C>(&self, code: &'a C) -> Weighted<'a, C>
+        ensures code { result.code.now ≡ code.now }
+        ensures weight { result.weight ≡ self.now.weight }
+    {
+        Weighted {
+            code,
+            weight: self.weight,
         }
     }
 
@@ -67,6 +71,7 @@ impl Frame {
         }
     }
 
+    // Kept: code, rule, source and memory apart, here and below: with a struct that refers to them, a call that writes through two of its fields was tried and gets no proof.
     // Makes a round that is to be counted, and answers how many bits it flipped.
     fn make_round<C: Code, R: Rule, N: Noise>(
         &mut self,
@@ -82,16 +87,8 @@ impl Frame {
         ensures meaning { R.Rule.meaning rule.new ≡ R.Rule.meaning rule.old }
     {
         let before = self.objective;
-        let swept = sweep(
-            code,
-            rule,
-            noise,
-            records,
-            signs,
-            self.weight,
-            self.rounds,
-            before,
-        );
+        let weighted = self.weighted(code);
+        let swept = weighted.sweep(rule, noise, records, signs, self.rounds, before);
         rule.tell(before, swept.objective);
         self.objective = swept.objective;
         self.rounds += 1;
@@ -111,14 +108,11 @@ impl Frame {
         ensures exact { StepsExactly (C.Code.answers code.now) (R.Rule.meaning rule.old) (N.Noise.noise noise.now) Round (held self.old records.old signs.old (R.Rule.state rule.old)) (reply (round_answer result) (held self.new records.new signs.new (R.Rule.state rule.new))) }
         ensures meaning { R.Rule.meaning rule.new ≡ R.Rule.meaning rule.old }
     {
-        if let Some(fault) = self.sizes_fault(code, records.len(), signs.len()) {
-            return Err(fault);
-        }
-        if let Some(verdict) = self.verdict(signs) {
-            return Ok(Turn::Stopped(verdict));
-        }
-        let flips = self.make_round(code, rule, noise, records, signs);
-        Ok(Turn::Flipped(flips))
+        self.check_sizes(code, records.len(), signs.len())?;
+        Ok(match self.verdict(signs) {
+            Some(verdict) => Turn::Stopped(verdict),
+            None => Turn::Flipped(self.make_round(code, rule, noise, records, signs)),
+        })
     }
 
     // Makes rounds until one would stop, and answers how that is.
@@ -157,9 +151,7 @@ impl Frame {
         ensures exact { StepsExactly (C.Code.answers code.now) (R.Rule.meaning rule.old) (N.Noise.noise noise.now) Decode (held self.old records.old signs.old (R.Rule.state rule.old)) (reply (decode_answer result) (held self.new records.new signs.new (R.Rule.state rule.new))) }
         ensures meaning { R.Rule.meaning rule.new ≡ R.Rule.meaning rule.old }
     {
-        if let Some(fault) = self.sizes_fault(code, records.len(), signs.len()) {
-            return Err(fault);
-        }
+        self.check_sizes(code, records.len(), signs.len())?;
         Ok(self.run(code, rule, noise, records, signs))
     }
 
@@ -174,13 +166,11 @@ impl Frame {
         ensures all { said (toggle_answer result) (core self.new records.new signs.new) ≡ toggled_in (C.Code.answers code.now) bit (core self.old records.old signs.old) }
         ensures exact { TogglesExactly (C.Code.answers code.now) bit (core self.old records.old signs.old) (said (toggle_answer result) (core self.new records.new signs.new)) }
     {
-        if let Some(fault) = self.sizes_fault(code, records.len(), signs.len()) {
-            return Err(fault);
-        }
-        if let Some(fault) = self.bit_fault(bit) {
-            return Err(fault);
-        }
-        self.objective = flip(code, records, signs, self.weight, self.objective, bit);
+        self.check_sizes(code, records.len(), signs.len())?;
+        self.check_bit(bit)?;
+        self.objective = self
+            .weighted(code)
+            .flip(records, signs, self.objective, bit);
         Ok(score_at(records, bit))
     }
 
@@ -189,9 +179,8 @@ impl Frame {
         ensures all { weigh_answer result ≡ weighed_in bit self.now records.now }
         ensures exact { WeighsExactly bit self.now records.now (weigh_answer result) }
     {
-        if let Some(fault) = unlike_size(records.len(), self.bits, self.bit_fault(bit)) {
-            return Err(fault);
-        }
+        check_size(records.len(), self.bits)?;
+        self.check_bit(bit)?;
         Ok(Weights {
             score: score_at(records, bit),
             objective: self.objective,
@@ -204,18 +193,16 @@ impl Frame {
         ensures all { unmet_answer result ≡ unmet_in self.now signs.now }
         ensures exact { CountsExactly self.now signs.now (unmet_answer result) }
     {
-        if let Some(fault) = unlike_size(signs.len(), self.checks, None) {
-            return Err(fault);
-        }
+        check_size(signs.len(), self.checks)?;
         Ok(unmet(signs))
     }
 
-    // The first size that a reading does not have.
-    pub(crate) fn read_fault(&self, records: usize, output: usize) -> Option<Fault>
-        ensures { result ≡ read_fault self.now records output }
+    // Refuses the first size that a reading does not have.
+    pub(crate) fn check_read(&self, records: usize, output: usize) -> Result<(), Fault>
+        ensures { MatchResult result (λ _. read_fault self.now records output ≡ None) (λ e. read_fault self.now records output ≡ Some e) }
     {
-        let next = unlike_size(output, bytes_for(self.bits), None);
-        unlike_size(records, self.bits, next)
+        check_size(records, self.bits)?;
+        check_size(output, self.bits.div_ceil(8))
     }
 
     // Packs the digits into the output, which has to have a byte for each eight bits or fewer.
@@ -224,9 +211,7 @@ impl Frame {
         ensures kept { OnErr result (output.new ≡ output.old) }
         ensures exact { ReadsExactly (length output.old) self.now records.now (read_answer result output.new) }
     {
-        if let Some(fault) = self.read_fault(records.len(), output.len()) {
-            return Err(fault);
-        }
+        self.check_read(records.len(), output.len())?;
         pack(records, output);
         Ok(())
     }

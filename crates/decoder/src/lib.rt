@@ -7,4 +7,4 @@ mod opening;
 mod replaying;
 
 pub use frame::{Ended, Frame, Turn, Weights};
-pub use replaying::{Replayed, Terms, Trial, replay, symmetry_trial};
+pub use replaying::{Replayed, Side, Terms, Trial, replay, symmetry_trial};

@@ -3,15 +3,13 @@ ghost use Rattle.std.specs.Prelude.{◌≡◌, length, IfOk, Some, None, MatchRe
 ghost use Rattle.decoder.specs.Memory.{held};
 ghost use Rattle.decoder.specs.Openings.{level_fits, first_bad_level, level_fault, weight_fault, limit_fault, open_fault, opened_in, OpenedExactly};
 
-use crate::calls::unlike_size;
+use crate::calls::check_size;
 use crate::frame::Frame;
 use codes::Code;
-use engine::{Bit, Sign, fill};
+use engine::{Bit, Sign, Weighted};
 use faults::Fault;
+use quantiser::most_level;
 use rules::Rule;
-
-// The largest magnitude of a level.
-const MOST_LEVEL: u8 = 31;
 
 // The largest weight.
 const MOST_WEIGHT: u8 = 16;
@@ -24,69 +22,65 @@ fn level_fits(level: i8) -> bool
     ensures { result ≡ level_fits level }
 {
     let size = level.unsigned_abs();
-    size <= MOST_LEVEL && size % 2 == 1
+    size <= most_level().unsigned_abs() && size % 2 == 1
 }
 
 // The least index of a level that does not fit.
 fn first_bad_level(levels: &[i8]) -> Option<usize>
     ensures { result ≡ first_bad_level levels.now }
 {
-    for i in 0..levels.len() {
-        if !level_fits(levels[i]) {
-            return Some(i);
-        }
-    }
-    None
+    levels.iter().position(|level| !level_fits(*level))
 }
 
-// That a limit is too large.
-fn limit_fault(limit: usize) -> Option<Fault>
-    ensures { result ≡ limit_fault limit }
-{
-    if limit <= MOST_LIMIT {
-        None
-    } else {
-        Some(Fault::LimitRange)
-    }
-}
-
-// A weight that is out of range, or else the next fault.
-fn weight_fault(weight: u8, next: Option<Fault>) -> Option<Fault>
-    ensures { result ≡ weight_fault weight next }
-{
-    if 1 <= weight && weight <= MOST_WEIGHT {
-        next
-    } else {
-        Some(Fault::WeightRange)
-    }
-}
-
-// A level that does not fit, or else the next fault.
-fn level_fault(levels: &[i8], next: Option<Fault>) -> Option<Fault>
-    ensures { result ≡ level_fault (first_bad_level levels.now) next }
+// Refuses the first level that does not fit.
+fn check_levels(levels: &[i8]) -> Result<(), Fault>
+    ensures { MatchResult result (λ _. first_bad_level levels.now ≡ None) (λ e. level_fault (first_bad_level levels.now) None ≡ Some e) }
 {
     match first_bad_level(levels) {
-        Some(at) => Some(Fault::LevelRange(at)),
-        None => next,
+        Some(at) => Err(Fault::LevelRange(at)),
+        None => Ok(()),
     }
 }
 
-// The first fault of an opening.
-fn open_fault<C: Code>(
+// Refuses a weight that is out of range.
+fn check_weight(weight: u8) -> Result<(), Fault>
+    ensures { MatchResult result (λ _. weight_fault weight None ≡ None) (λ e. weight_fault weight None ≡ Some e) }
+{
+    if (1..=MOST_WEIGHT).contains(&weight) {
+        Ok(())
+    } else {
+        Err(Fault::WeightRange)
+    }
+}
+
+// Refuses a limit that is too large.
+fn check_limit(limit: usize) -> Result<(), Fault>
+    ensures { MatchResult result (λ _. limit_fault limit ≡ None) (λ e. limit_fault limit ≡ Some e) }
+{
+    if limit <= MOST_LIMIT {
+        Ok(())
+    } else {
+        Err(Fault::LimitRange)
+    }
+}
+
+// Refuses an opening for its first fault.
+fn check_open<C: Code>(
     code: &C,
     levels: &[i8],
     weight: u8,
     limit: usize,
     records: usize,
     signs: usize,
-) -> Option<Fault>
-    ensures { result ≡ open_fault (C.Code.answers code.now) levels.now weight limit records signs }
+) -> Result<(), Fault>
+    ensures { MatchResult result (λ _. open_fault (C.Code.answers code.now) levels.now weight limit records signs ≡ None) (λ e. open_fault (C.Code.answers code.now) levels.now weight limit records signs ≡ Some e) }
 {
-    let numbers = weight_fault(weight, limit_fault(limit));
-    let values = level_fault(levels, numbers);
-    let signs = unlike_size(signs, code.checks(), values);
-    let records = unlike_size(records, code.bits(), signs);
-    unlike_size(levels.len(), code.bits(), records)
+    check_size(levels.len(), code.bits())?;
+    check_size(records, code.bits())?;
+    check_size(signs, code.checks())?;
+    check_levels(levels)?;
+    check_weight(weight)?;
+    check_limit(limit)
 }
 
 impl Frame {
@@ -104,10 +98,8 @@ impl Frame {
         ensures exact { IfOk result (λ f. OpenedExactly (C.Code.answers code.now) (R.Rule.meaning rule.old) levels.now weight limit (held f records.new signs.new (R.Rule.state rule.new))) }
         ensures meaning { R.Rule.meaning rule.new ≡ R.Rule.meaning rule.old }
     {
-        if let Some(fault) = open_fault(code, levels, weight, limit, records.len(), signs.len()) {
-            return Err(fault);
-        }
-        let objective = fill(code, records, signs, levels, weight);
+        check_open(code, levels, weight, limit, records.len(), signs.len())?;
+        let objective = Weighted { code, weight }.fill(records, signs, levels);
         rule.restart();
         Ok(Frame {
             bits: code.bits(),

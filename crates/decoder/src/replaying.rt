@@ -1,17 +1,16 @@
 // Whole lists of calls on a frame.
 ghost use Rattle.std.specs.Prelude.{◌≡◌, map, IfOk, Err, vec_items, MatchResult};
 ghost use Rattle.faults.specs.declared.Fault.TheVariants.{NoMemory};
-ghost use Rattle.decoder.specs.Answering.{round_answer, decode_answer, toggle_answer, weigh_answer, unmet_answer};
 ghost use Rattle.decoder.specs.Memory.{held, reply, step_in, read_in, Performed};
-ghost use Rattle.decoder.specs.Replays.{unpacked, given, lent, Outcome, ExactOutcome};
+ghost use Rattle.decoder.specs.Replays.{unpacked, given, handed, left, lent, Outcome, ExactOutcome};
 ghost use Rattle.decoder.specs.Trials.{Lasting, CodewordSymmetry};
 
-use crate::frame::{Ended, Frame, Turn, Weights};
+use crate::frame::Frame;
 use codes::Code;
-use engine::{Bit, Sign};
+use engine::{Bit, Sign, pack};
 use faults::Fault;
 use noise::Noise;
-use plain::{Answer, Call, Verdict};
+use plain::{Answer, Call};
 use quantiser::{Quantiser, quantise};
 use rules::Rule;
 use std::alloc::Global;
@@ -27,68 +26,28 @@ pub struct Terms<'a, C> {
 }
 
 // What a replay comes to: the frame, and the answer of each call.
-#[derive(Drop)]
+#[derive(Debug, PartialEq, Eq, Drop)]
 pub struct Replayed {
     pub frame: Frame,
     pub answers: Vec<Answer<Vec<u8>>>,
 }
 
-// Both sides of a trial, each performed or refused.
+// What one frame is replayed on: its rule, the caller's memory, its source and its samples.
 #[derive(Drop)]
+pub struct Side<'a, R, N> {
+    pub rule: &'a mut R,
+    pub levels: &'a mut [i8],
+    pub records: &'a mut [Bit],
+    pub signs: &'a mut [Sign],
+    pub noise: &'a N,
+    pub samples: &'a [f32],
+}
+
+// Both sides of a trial, each performed or refused.
+#[derive(Debug, PartialEq, Eq, Drop)]
 pub struct Trial {
     pub first: Result<Replayed, Fault>,
     pub second: Result<Replayed, Fault>,
-}
-
-// The answer of a round.
-fn answer_round(res: Result<Turn, Fault>) -> Answer<Vec<u8>>
-    ensures { unpacked vec_items result ≡ round_answer res }
-{
-    match res {
-        Ok(Turn::Stopped(verdict)) => Answer::Stopped(verdict),
-        Ok(Turn::Flipped(count)) => Answer::Flipped(count),
-        Err(fault) => Answer::Refused(fault),
-    }
-}
-
-// The answer of a decode.
-fn answer_decode(res: Result<Ended, Fault>) -> Answer<Vec<u8>>
-    ensures { unpacked vec_items result ≡ decode_answer res }
-{
-    match res {
-        Ok(ended) => Answer::Ended(ended.verdict, ended.rounds),
-        Err(fault) => Answer::Refused(fault),
-    }
-}
-
-// The answer of a toggle.
-fn answer_toggle(res: Result<i16, Fault>) -> Answer<Vec<u8>>
-    ensures { unpacked vec_items result ≡ toggle_answer res }
-{
-    match res {
-        Ok(score) => Answer::Toggled(score),
-        Err(fault) => Answer::Refused(fault),
-    }
-}
-
-// The answer of a weighing.
-fn answer_weigh(res: Result<Weights, Fault>) -> Answer<Vec<u8>>
-    ensures { unpacked vec_items result ≡ weigh_answer res }
-{
-    match res {
-        Ok(weights) => Answer::Weighed(weights.score, weights.objective, weights.gain),
-        Err(fault) => Answer::Refused(fault),
-    }
-}
-
-// The answer of a count of unmet checks.
-fn answer_unmet(res: Result<usize, Fault>) -> Answer<Vec<u8>>
-    ensures { unpacked vec_items result ≡ unmet_answer res }
-{
-    match res {
-        Ok(count) => Answer::Unmet(count),
-        Err(fault) => Answer::Refused(fault),
-    }
 }
 
 // Reads into so many bytes of its own, which it makes only if they are not refused.
@@ -100,17 +59,16 @@ fn answer_read(
 ) -> Result<Answer<Vec<u8>>, Fault>
     ensures { MatchResult result (λ x. unpacked vec_items x ≡ read_in size frame.now records.now) (λ e. e ≡ NoMemory) }
 {
-    if let Some(fault) = frame.read_fault(records.len(), size) {
+    if let Err(fault) = frame.check_read(records.len(), size) {
         return Ok(Answer::Refused(fault));
     }
     let mut bytes = vec![in heap; 0; size]?;
-    match frame.read(records, &mut bytes) {
-        Ok(()) => Ok(Answer::Packed(bytes)),
-        Err(fault) => Ok(Answer::Refused(fault)),
-    }
+    pack(records, &mut bytes);
+    Ok(Answer::Packed(bytes))
 }
 
 // Performs one call.
+// Kept: all that a call lends, apart: with a struct that refers to it, a call that writes through two of its fields was tried and gets no proof.
 fn perform<C: Code, R: Rule, N: Noise>(
     heap: Global,
     frame: &mut Frame,
@@ -124,17 +82,23 @@ fn perform<C: Code, R: Rule, N: Noise>(
     ensures all { MatchResult result (λ x. reply (unpacked vec_items x) (held frame.new records.new signs.new (R.Rule.state rule.new)) ≡ step_in (R.Rule.meaning rule.old) (N.Noise.noise noise.now) (C.Code.answers code.now) call (held frame.old records.old signs.old (R.Rule.state rule.old))) (λ e. e ≡ NoMemory) }
     ensures meaning { R.Rule.meaning rule.new ≡ R.Rule.meaning rule.old }
 {
-    match call {
-        Call::Round => Ok(answer_round(frame.round(code, rule, noise, records, signs))),
-        Call::Decode => Ok(answer_decode(frame.decode(code, rule, noise, records, signs))),
-        Call::Toggle(bit) => Ok(answer_toggle(frame.toggle(code, records, signs, bit))),
-        Call::Weigh(bit) => Ok(answer_weigh(frame.weigh(records, bit))),
-        Call::Unmet => Ok(answer_unmet(frame.unmet(signs))),
-        Call::Read(size) => answer_read(heap, frame, records, size),
-    }
+    let answer = match call {
+        Call::Round => frame
+            .round(code, rule, noise, records, signs)
+            .map(Answer::from),
+        Call::Decode => frame
+            .decode(code, rule, noise, records, signs)
+            .map(Answer::from),
+        Call::Toggle(bit) => frame.toggle(code, records, signs, bit).map(Answer::Toggled),
+        Call::Weigh(bit) => frame.weigh(records, bit).map(Answer::from),
+        Call::Unmet => frame.unmet(signs).map(Answer::Unmet),
+        Call::Read(size) => Ok(answer_read(heap, frame, records, size)?),
+    };
+    Ok(answer.unwrap_or_else(Answer::Refused))
 }
 
 // Performs the calls one after another.
+// Kept: a `for`, and not a chain: each call changes what the next one is performed on.
 fn perform_all<C: Code, R: Rule, N: Noise>(
     heap: Global,
     frame: &mut Frame,
@@ -155,16 +119,38 @@ fn perform_all<C: Code, R: Rule, N: Noise>(
     Ok(answers)
 }
 
-// Quantises the samples, opens a frame with their levels, and performs the calls.
+// Quantises the samples of a side, opens a frame with their levels, and performs the calls.
 pub fn replay<C: Code, R: Rule, N: Noise>(
     heap: Global,
     terms: &Terms<C>,
+    side: Side<R, N>,
+) -> Result<Replayed, Fault>
+    ensures outcome { Outcome (given C.Code.answers terms.now) (R.Rule.meaning side.entry.rule.now) (N.Noise.noise side.entry.noise.now) side.entry.samples.now (handed R.Rule.state side.entry) (left R.Rule.state side.exit) result }
+    ensures exact { ExactOutcome (given C.Code.answers terms.now) (R.Rule.meaning side.entry.rule.now) (N.Noise.noise side.entry.noise.now) side.entry.samples.now (left R.Rule.state side.exit) result }
+    ensures meaning { R.Rule.meaning side.exit.0.now ≡ R.Rule.meaning side.entry.rule.now }
+{
+    let Side {
+        rule,
+        levels,
+        records,
+        signs,
+        noise,
+        samples,
+    } = side;
+    replay_on(heap, terms, rule, levels, records, signs, noise, samples)
+}
+
+// The same, of all that a side holds.
+// Kept: what a side holds, apart: moving the Side on whole was tried, and then nothing is known of what it leaves behind its references.
+fn replay_on<C: Code, R: Rule, N: Noise>(
+    heap: Global,
+    terms: &Terms<C>,
     rule: &mut R,
-    noise: &N,
-    samples: &[f32],
     levels: &mut [i8],
     records: &mut [Bit],
     signs: &mut [Sign],
+    noise: &N,
+    samples: &[f32],
 ) -> Result<Replayed, Fault>
     ensures outcome { Outcome (given C.Code.answers terms.now) (R.Rule.meaning rule.old) (N.Noise.noise noise.now) samples.now (lent levels.old records.old signs.old (R.Rule.state rule.old)) (lent levels.new records.new signs.new (R.Rule.state rule.new)) result }
     ensures exact { ExactOutcome (given C.Code.answers terms.now) (R.Rule.meaning rule.old) (N.Noise.noise noise.now) samples.now (lent levels.new records.new signs.new (R.Rule.state rule.new)) result }
@@ -194,6 +180,7 @@ pub fn replay<C: Code, R: Rule, N: Noise>(
 }
 
 // The outcome of a replay, but want of memory by itself.
+// Kept: a Result in a Result: want of memory ends a trial, and any other refusal is what one side came to.
 fn lasting(res: Result<Replayed, Fault>) -> Result<Result<Replayed, Fault>, Fault>
     ensures { MatchResult result (λ x. (x ≡ res) × Lasting x) (λ e. (e ≡ NoMemory) × (res ≡ Err NoMemory)) }
 {
@@ -208,34 +195,31 @@ fn lasting(res: Result<Replayed, Fault>) -> Result<Result<Replayed, Fault>, Faul
 pub fn symmetry_trial<C: Code, R: Rule, Q: Rule, N: Noise, M: Noise>(
     heap: Global,
     terms: &Terms<C>,
-    rule: &mut R,
-    noise: &N,
-    samples: &[f32],
-    levels: &mut [i8],
-    records: &mut [Bit],
-    signs: &mut [Sign],
-    other_rule: &mut Q,
-    other_noise: &M,
-    other_samples: &[f32],
-    other_levels: &mut [i8],
-    other_records: &mut [Bit],
-    other_signs: &mut [Sign],
+    side: Side<R, N>,
+    other: Side<Q, M>,
 ) -> Result<Trial, Fault>
-    ensures outcomes { MatchResult result (λ t. Outcome (given C.Code.answers terms.now) (R.Rule.meaning rule.old) (N.Noise.noise noise.now) samples.now (lent levels.old records.old signs.old (R.Rule.state rule.old)) (lent levels.new records.new signs.new (R.Rule.state rule.new)) t.first × Outcome (given C.Code.answers terms.now) (Q.Rule.meaning other_rule.old) (M.Noise.noise other_noise.now) other_samples.now (lent other_levels.old other_records.old other_signs.old (Q.Rule.state other_rule.old)) (lent other_levels.new other_records.new other_signs.new (Q.Rule.state other_rule.new)) t.second × Lasting t.first × Lasting t.second) (λ e. e ≡ NoMemory) }
-    ensures symmetry { IfOk result (λ t. CodewordSymmetry (given C.Code.answers terms.now) (R.Rule.meaning rule.old) (Q.Rule.meaning other_rule.old) (N.Noise.noise noise.now) (M.Noise.noise other_noise.now) samples.now other_samples.now (lent levels.old records.old signs.old (R.Rule.state rule.old)) (lent other_levels.old other_records.old other_signs.old (Q.Rule.state other_rule.old)) (lent levels.new records.new signs.new (R.Rule.state rule.new)) (lent other_levels.new other_records.new other_signs.new (Q.Rule.state other_rule.new)) t.first t.second) }
-    ensures meaning { R.Rule.meaning rule.new ≡ R.Rule.meaning rule.old }
-    ensures other_meaning { Q.Rule.meaning other_rule.new ≡ Q.Rule.meaning other_rule.old }
+    ensures outcomes { MatchResult result (λ t. Outcome (given C.Code.answers terms.now) (R.Rule.meaning side.entry.rule.now) (N.Noise.noise side.entry.noise.now) side.entry.samples.now (handed R.Rule.state side.entry) (left R.Rule.state side.exit) t.first × Outcome (given C.Code.answers terms.now) (Q.Rule.meaning other.entry.rule.now) (M.Noise.noise other.entry.noise.now) other.entry.samples.now (handed Q.Rule.state other.entry) (left Q.Rule.state other.exit) t.second × Lasting t.first × Lasting t.second) (λ e. e ≡ NoMemory) }
+    ensures symmetry { IfOk result (λ t. CodewordSymmetry (given C.Code.answers terms.now) (R.Rule.meaning side.entry.rule.now) (Q.Rule.meaning other.entry.rule.now) (N.Noise.noise side.entry.noise.now) (M.Noise.noise other.entry.noise.now) side.entry.samples.now other.entry.samples.now (handed R.Rule.state side.entry) (handed Q.Rule.state other.entry) (left R.Rule.state side.exit) (left Q.Rule.state other.exit) t.first t.second) }
+    ensures meaning { R.Rule.meaning side.exit.0.now ≡ R.Rule.meaning side.entry.rule.now }
+    ensures other_meaning { Q.Rule.meaning other.exit.0.now ≡ Q.Rule.meaning other.entry.rule.now }
 {
-    let first = lasting(replay(heap, terms, rule, noise, samples, levels, records, signs))?;
-    let second = lasting(replay(
-        heap,
-        terms,
-        other_rule,
-        other_noise,
-        other_samples,
-        other_levels,
-        other_records,
-        other_signs,
-    ))?;
+    let Side {
+        rule,
+        levels,
+        records,
+        signs,
+        noise,
+        samples,
+    } = side;
+    let first = lasting(replay_on(heap, terms, rule, levels, records, signs, noise, samples))?;
+    let Side {
+        rule,
+        levels,
+        records,
+        signs,
+        noise,
+        samples,
+    } = other;
+    let second = lasting(replay_on(heap, terms, rule, levels, records, signs, noise, samples))?;
     Ok(Trial { first, second })
 }

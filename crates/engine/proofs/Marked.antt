@@ -1,25 +1,13 @@
 -- What marking keeps, and what it sets.
 use Rattle.std.proofs.Common.{◌≡◌, ℕ, zero, suc, ◌+◌, ◌<◌, ◌≤◌, Bool, true, false, cond, eqb, List, length, get_or, ℤ, ◌+ℤ◌, sym, refl, ap, ◌∙◌, ⊎_elim, arith}
-use Rattle.std.specs.Int.{saturate_to_bits}
-use Rattle.std.proofs.lemmas.List.{set_past}
-use Rattle.std.proofs.lemmas.Bool.{cases_eq, cases_lt}
+use Rattle.std.specs.Int.{from_bool, saturate_to_bits}
+use Rattle.std.proofs.lemmas.Bool.{cases_eq}
 use Rattle.codes.specs.Pairs.{count_below}
+use Rattle.codes.proofs.Counts.{unit_few}
 use Rattle.engine.specs.declared.bit.Bit.{Bit}
 use Rattle.engine.specs.Sweeps.{picks_at, marked, mark_places}
 use Rattle.engine.specs.Turns.{blank, alter}
-use Rattle.engine.proofs.Rows.{alter_length, alter_same, alter_other}
-
--- what a change of one record keeps
-pub alter_keeps : {X : Type 0} (f : Bit → X) (g : Bit → Bit) → ((r : Bit) → f (g r) ≡ f r) → (i : ℕ) (rs : List Bit) (b : ℕ) → f (get_or (alter g i rs) b blank) ≡ f (get_or rs b blank)
-alter_keeps f g same i rs b =
-    ⊎_elim
-    (λ (e : b ≡ i).
-    ⊎_elim
-    (λ (lt : i < length rs). ap (λ j. f (get_or (alter g i rs) j blank)) e ∙ ap f (alter_same g i rs lt) ∙ same (get_or rs i blank) ∙ ap (λ j. f (get_or rs j blank)) (sym e))
-    (λ (ge : length rs ≤ i). ap (λ (l : List Bit). f (get_or l b blank)) (set_past rs i (g (get_or rs i blank)) ge))
-    (cases_lt i (length rs)))
-    (λ (ne : b ≡ i → ⊥). ap f (alter_other g i b rs ne))
-    (cases_eq b i)
+use Rattle.engine.proofs.Rows.{alter_length, alter_same, alter_other, alter_keeps}
 
 pub mark_length : (picked : ℕ → Bool) (n : ℕ) (rs : List Bit) → length (mark_places picked n rs) ≡ length rs
 mark_length picked zero rs = refl
@@ -49,22 +37,27 @@ picks_kept says noise low rs picked n k = ap (λ (z : ℤ). says (saturate_to_bi
 
 pub count_most : (n : ℕ) (f : ℕ → Bool) → count_below n f ≤ n
 count_most zero f = omega arith
-count_most (suc n) f = unit_most (f n) (count_below n f) n (count_most n f)
-  where
-    unit_most : (t : Bool) (c n : ℕ) → c ≤ n → c + cond t 1 0 ≤ suc n
-    unit_most true c n h = omega arith
-    unit_most false c n h = omega arith
+count_most (suc n) f = let most = count_most n f in let one = unit_few (f n) in omega arith
+
+-- a test counted, as a cast to a number counts it
+unit_is : (t : Bool) → from_bool t ≡ cond t 1 0
+unit_is true = refl
+unit_is false = refl
 
 -- the first n bits are marked by their picks
 pub record Marks (says : ℤ → Bool → Bool) (noise : ℕ → ℤ) (low : ℕ) (rs : List Bit) (n : ℕ) (after : List Bit) (count : ℕ) : Type 0 where
   pub records : after ≡ mark_places (picks_at says noise low rs) n rs
   pub counts : count ≡ count_below n (picks_at says noise low rs)
 
-pub mark_one : (says : ℤ → Bool → Bool) (noise : ℕ → ℤ) (low : ℕ) (rs : List Bit) (n : ℕ) (before after : List Bit) (count one : ℕ) (picked : Bool) → Marks says noise low rs n before count → picked ≡ picks_at says noise low before n → after ≡ alter (marked picked) n before → one ≡ cond picked 1 0 → Marks says noise low rs (suc n) after (count + one)
-mark_one says noise low rs n before after count one picked M is set counted =
+-- one more is counted, and there are no more marks than bits
+pub mark_room : (f : ℕ → Bool) (n count one : ℕ) (picked : Bool) → count ≡ count_below n f → one ≡ from_bool picked → count + one ≤ n + 1
+mark_room f n count one picked counts counted = let most = count_most n f in let few = unit_few picked in let unit = unit_is picked in omega arith
+
+pub mark_one : (says : ℤ → Bool → Bool) (noise : ℕ → ℤ) (low : ℕ) (rs : List Bit) (n : ℕ) (before : List Bit) (count one : ℕ) (picked : Bool) → Marks says noise low rs n before count → picked ≡ picks_at says noise low before n → one ≡ from_bool picked → Marks says noise low rs (suc n) (alter (marked picked) n before) (count + one)
+mark_one says noise low rs n before count one picked M is counted =
     let P = picks_at says noise low rs in
     let here : picked ≡ P n = is ∙ ap (λ (l : List Bit). picks_at says noise low l n) M.records ∙ picks_kept says noise low rs P n n in
     record {
-      records = set ∙ ap (λ (t : Bool). alter (marked t) n before) here ∙ ap (alter (marked (P n)) n) M.records;
-      counts = ap (λ (c : ℕ). c + one) M.counts ∙ ap (λ (o : ℕ). count_below n P + o) (counted ∙ ap (λ (t : Bool). cond t 1 0) here);
+      records = ap (λ (t : Bool). alter (marked t) n before) here ∙ ap (alter (marked (P n)) n) M.records;
+      counts = ap (λ (c : ℕ). c + one) M.counts ∙ ap (λ (o : ℕ). count_below n P + o) (counted ∙ unit_is picked ∙ ap (λ (t : Bool). cond t 1 0) here);
     }

@@ -5,7 +5,7 @@ use Rattle.std.proofs.lemmas.Nat.{pow_pos, pow-add, shl-shr}
 use Rattle.std.proofs.lemmas.List.FromFn.{length-map-range_with_len, get_or-map-range_with_len, fill_by_all}
 use Rattle.std.proofs.lemmas.Bool.{cases_Bool, ltb-true}
 use Rattle.codes.specs.Pairs.{Pairs, count_below}
-use Rattle.codes.proofs.Counts.{count_same}
+use Rattle.codes.proofs.Counts.{count_same, count_by_below}
 use Rattle.plain.specs.Machine.{bytes_for, byte_below, packed}
 use Rattle.plain.specs.Scores.{sign_of}
 use Rattle.engine.specs.declared.bit.Sign.{Sign}
@@ -21,7 +21,8 @@ unmet_below Unmet = refl
 -- of signs that are those of the digits, as many are unmet as checks are
 pub unmet_counts : (p : Pairs) (d : ℕ → Bool) (n : ℕ) (ss : List Sign) → length ss ≡ n → ((c : ℕ) → c < n → sign_value (get_or ss c Met) ≡ sign_of p d c) → unmet_signs ss ≡ count_below n (λ c. lt_z (sign_of p d c) (pos 0))
 unmet_counts p d n ss size same =
-    ap (λ m. count_below m (λ c. is_unmet (get_or ss c Met))) size
+    count_by_below is_unmet Met ss
+    ∙ ap (λ m. count_below m (λ c. is_unmet (get_or ss c Met))) size
     ∙ count_same n (λ c. is_unmet (get_or ss c Met)) (λ c. lt_z (sign_of p d c) (pos 0)) (λ c l. unmet_below (get_or ss c Met) ∙ ap (λ z. lt_z z (pos 0)) (same c l))
 
 -- ---- places in a byte, the first at the top

@@ -97,20 +97,21 @@ not_listed size place n has lo hi l b f q m e =
 pub row_miss : (size : Option ℕ) (place : ℕ → Option ℕ) (n : ℕ) (has : ℕ → Bool) (lo hi : ℕ) (l : Lists size place n has lo hi) (k : ℕ) (by : ℤ) (rs : List Bit) (b : ℕ) → has b ≡ false → get_or (raise_places place k by l.count rs) b blank ≡ get_or rs b blank
 row_miss size place n has lo hi l k by rs b f = raise_miss place k by b l.count rs (not_listed size place n has lo hi l b f)
 
-alter_kept : {X : Type 0} (f : Bit → X) (by : ℤ) → ((r : Bit) → f (raised by r) ≡ f r) → (b x : ℕ) (rs : List Bit) → f (get_or (alter (raised by) x rs) b blank) ≡ f (get_or rs b blank)
-alter_kept f by same b x rs =
+-- what a change of one record keeps
+pub alter_keeps : {X : Type 0} (f : Bit → X) (g : Bit → Bit) → ((r : Bit) → f (g r) ≡ f r) → (i : ℕ) (rs : List Bit) (b : ℕ) → f (get_or (alter g i rs) b blank) ≡ f (get_or rs b blank)
+alter_keeps f g same i rs b =
     ⊎_elim
-    (λ (e : b ≡ x).
+    (λ (e : b ≡ i).
     ⊎_elim
-    (λ (lt : x < length rs). ap (λ i. f (get_or (alter (raised by) x rs) i blank)) e ∙ ap f (alter_same (raised by) x rs lt) ∙ same (get_or rs x blank) ∙ ap (λ i. f (get_or rs i blank)) (sym e))
-    (λ (ge : length rs ≤ x). ap (λ (l : List Bit). f (get_or l b blank)) (set_past rs x (raised by (get_or rs x blank)) ge))
-    (cases_lt x (length rs)))
-    (λ (ne : b ≡ x → ⊥). ap f (alter_other (raised by) x b rs ne))
-    (cases_eq b x)
+    (λ (lt : i < length rs). ap (λ j. f (get_or (alter g i rs) j blank)) e ∙ ap f (alter_same g i rs lt) ∙ same (get_or rs i blank) ∙ ap (λ j. f (get_or rs j blank)) (sym e))
+    (λ (ge : length rs ≤ i). ap (λ (l : List Bit). f (get_or l b blank)) (set_past rs i (g (get_or rs i blank)) ge))
+    (cases_lt i (length rs)))
+    (λ (ne : b ≡ i → ⊥). ap f (alter_other g i b rs ne))
+    (cases_eq b i)
 
 cond_kept : {X : Type 0} (f : Bit → X) (t : Bool) (by : ℤ) → ((r : Bit) → f (raised by r) ≡ f r) → (b x : ℕ) (rs : List Bit) → f (get_or (cond t rs (alter (raised by) x rs)) b blank) ≡ f (get_or rs b blank)
 cond_kept f true by same b x rs = refl
-cond_kept f false by same b x rs = alter_kept f by same b x rs
+cond_kept f false by same b x rs = alter_keeps f (raised by) same x rs b
 
 other_kept : {X : Type 0} (f : Bit → X) (k : ℕ) (by : ℤ) → ((r : Bit) → f (raised by r) ≡ f r) → (b : ℕ) (o : Option ℕ) (rs : List Bit) → f (get_or (raise_other k by o rs) b blank) ≡ f (get_or rs b blank)
 other_kept f k by same b None rs = refl

@@ -24,8 +24,8 @@ use Rattle.engine.specs.Sweeps.{sum_at, lowest_of, picks_at, marked, mark_places
 use Rattle.engine.specs.Turns.{Memory, memory, blank, turned_sign, turn_bit, alter, push, raise_row, sign_to, turn_check, turn_places, turn_column, turn_checks, flipped, fallen}
 use Rattle.engine.proofs.Between.{modest, flip_stands}
 use Rattle.engine.proofs.Lows.{lowest_same}
-use Rattle.engine.proofs.Marked.{alter_keeps, mark_length, mark_keeps, mark_at}
-use Rattle.engine.proofs.Rows.{alter_length, alter_same, alter_other, row_kept}
+use Rattle.engine.proofs.Marked.{mark_length, mark_keeps, mark_at}
+use Rattle.engine.proofs.Rows.{alter_length, alter_same, alter_other, alter_keeps, row_kept}
 
 -- ---- a flip keeps the marks
 abbrev mark_of : Bit → Bool

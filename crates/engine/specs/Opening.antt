@@ -5,9 +5,9 @@ use Rattle.codes.specs.Answers.{Answers}
 use Rattle.plain.specs.Scores.{Setting, open_digit}
 use Rattle.engine.specs.declared.bit.Bit.{Bit}
 use Rattle.engine.specs.declared.bit.Sign.{Sign}
-use Rattle.engine.specs.declared.bit.Sign.TheVariants.{Met, Unmet}
+use Rattle.engine.specs.declared.bit.Sign.TheVariants.{Met}
 use Rattle.engine.specs.Stands.{Fits, StandsFor}
-use Rattle.engine.specs.Turns.{Memory, blank, turned_sign, raise_check}
+use Rattle.engine.specs.Turns.{Memory, blank, with_sign, turned_sign, raise_check}
 
 -- ---- the levels put down
 -- a level without its sign
@@ -52,8 +52,7 @@ sign_check a c rs = sign_row (a.check_bit c) rs (a.check_degree c)
 
 -- the weight, with the sign
 abbrev pub voice : ℕ → Sign → ℤ
-voice w Met = pos w
-voice w Unmet = neg_ℤ (pos w)
+voice w t = with_sign t (pos w)
 
 -- ---- records, signs and objective
 pub record Whole : Type 0 where

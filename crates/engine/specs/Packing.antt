@@ -1,7 +1,6 @@
 -- What is read off the memory of a frame: a count of its unmet checks, and its digits in bytes. Assumes nothing.
-use Rattle.std.specs.Prelude.{ℕ, Bool, true, false, List, map, length, get_or, slice_index_or}
+use Rattle.std.specs.Prelude.{ℕ, Bool, true, false, List, map, length, count_by, get_or}
 use Rattle.std.specs.List.{range_with_len}
-use Rattle.codes.specs.Pairs.{count_below}
 use Rattle.plain.specs.Machine.{byte_below}
 use Rattle.engine.specs.declared.bit.Bit.{Bit}
 use Rattle.engine.specs.declared.bit.Sign.{Sign}
@@ -15,7 +14,7 @@ is_unmet Unmet = true
 
 -- how many of the signs are unmet
 abbrev pub unmet_signs : List Sign → ℕ
-unmet_signs ss = count_below (length ss) (λ c. is_unmet (slice_index_or ss c Met))
+unmet_signs ss = count_by is_unmet ss
 
 -- the digit of each record
 abbrev pub digits_of : List Bit → ℕ → Bool

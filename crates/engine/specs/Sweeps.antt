@@ -1,12 +1,11 @@
 -- What the flips of a round do to the records, the signs and the objective, whatever they are, and that they are exact. Assumes nothing.
-use Rattle.std.specs.Prelude.{◌≡◌, ℕ, zero, suc, Bool, false, cond, List, length, ℤ, ◌+ℤ◌, ◌==◌, int_lt, slice_index_or}
+use Rattle.std.specs.Prelude.{◌≡◌, ℕ, zero, suc, Bool, false, cond, List, length, ℤ, ◌+ℤ◌, ◌==◌, slice_index_or}
 use Rattle.std.specs.Int.{saturate_to_bits}
 use Rattle.codes.specs.Answers.{Answers}
 use Rattle.codes.specs.Pairs.{count_below}
 use Rattle.rules.specs.Meaning.{RuleMeaning}
 use Rattle.plain.specs.Machine.{Frame, State, flip_set, lowest, picks}
 use Rattle.engine.specs.declared.bit.Bit.{Bit}
-use Rattle.engine.specs.declared.sweeping.Least.{Least}
 use Rattle.engine.specs.Opening.{Whole, whole}
 use Rattle.engine.specs.Stands.{Fits, StandsFor, Unmarked}
 use Rattle.engine.specs.Turns.{Memory, memory, blank, alter, flipped, fallen}
@@ -15,10 +14,6 @@ use Rattle.engine.specs.Turns.{Memory, memory, blank, alter, flipped, fallen}
 -- a bit's score and the noise at it, held to 16 bits
 abbrev pub sum_at : (ℕ → ℤ) → List Bit → ℕ → ℤ
 sum_at noise rs k = saturate_to_bits 15 ((slice_index_or rs k blank).score +ℤ noise k)
-
--- the lower of the least so far and the sum at k
-abbrev pub lower_of : Least → ℕ → ℤ → Least
-lower_of best k sum = cond (int_lt sum best.sum) (record { at = k; sum = sum }) best
 
 -- the first bit with the least sum
 abbrev pub lowest_of : (ℕ → ℤ) → List Bit → ℕ

@@ -26,10 +26,14 @@ turn_bit b = record { digit = not b.digit; level = b.level; score = saturate_to_
 abbrev pub alter : (Bit → Bit) → ℕ → List Bit → List Bit
 alter f i rs = slice_set rs i (f (slice_index_or rs i blank))
 
+-- a number, with the sign
+abbrev pub with_sign : Sign → ℤ → ℤ
+with_sign Met z = z
+with_sign Unmet z = neg_ℤ z
+
 -- twice the weight, with the sign
 abbrev pub push : ℕ → Sign → ℤ
-push w Met = pos (2 * w)
-push w Unmet = neg_ℤ (pos (2 * w))
+push w t = with_sign t (pos (2 * w))
 
 -- the bit at a place raised, unless it is k
 abbrev pub raise_other : ℕ → ℤ → Option ℕ → List Bit → List Bit

@@ -7,9 +7,9 @@ mod opening;
 mod packing;
 mod sweeping;
 mod turning;
+mod weighted;
 
 pub use bit::{Bit, Sign, score_at};
-pub use opening::fill;
 pub use packing::{pack, unmet};
-pub use sweeping::{Swept, sweep};
-pub use turning::flip;
+pub use sweeping::Swept;
+pub use weighted::Weighted;

@@ -4,30 +4,25 @@ ghost use Rattle.std.specs.Prelude.{◌≡◌, ◌+◌, ◌*◌, ◌&&◌, lengt
 ghost use Rattle.plain.specs.Machine.{byte_below};
 ghost use Rattle.engine.specs.Packing.{unmet_signs, digits_of, packed_into};
 
+use crate::bit::digit_at;
 use crate::{Bit, Sign};
 
 // How many signs are unmet.
 pub fn unmet(signs: &[Sign]) -> usize
     ensures { result ≡ unmet_signs signs.now }
 {
-    let mut count = 0;
-    for sign in signs {
-        if let Sign::Unmet = *sign {
-            count += 1;
-        }
-    }
-    count
+    signs.iter().filter(|sign| **sign == Sign::Unmet).count()
 }
 
 // Whether place j of byte i is a record with the digit 1.
 fn is_one(records: &[Bit], i: usize, j: usize) -> bool
     ensures { result ≡ (nat_lt (i * 8 + j) (length records.now) && digits_of records.now (i * 8 + j)) }
 {
-    let k = i.saturating_mul(8).saturating_add(j);
-    k < records.len() && records[k].digit
+    digit_at(records, i.saturating_mul(8).saturating_add(j))
 }
 
 // Byte i of the packed digits.
+// Kept: a sum over the eight places; as a chain, that the sum fits a byte could not be proved.
 fn byte_at(records: &[Bit], i: usize) -> u8
     ensures { result ≡ byte_below (length records.now) (digits_of records.now) i 8 }
 {

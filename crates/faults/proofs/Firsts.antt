@@ -1,7 +1,11 @@
 -- The least number that passes a test.
-use Rattle.std.proofs.Common.{◌≡◌, ℕ, zero, suc, ◌+◌, ◌*◌, ◌/◌, ◌<◌, Bool, true, false, cond, Some, None, Option, sym, refl, ap, ◌∙◌, ⊎_elim, add-one, arith}
+use Rattle.std.proofs.Common.{◌≡◌, ℕ, zero, suc, ◌+◌, ◌*◌, ◌/◌, ◌<◌, ◌≤◌, ◌⊎◌, inl, inr, Bool, true, false, cond, List, [], ◌∷◌, ◌++◌, length, get_or, Some, None, Option, position, sym, refl, ap, ◌∙◌, ⊎_elim, add-one, arith}
+use Rattle.std.specs.List.{range_with_len, find, position_or_len}
+use Rattle.std.specs.Option.{option_or}
+use Rattle.std.proofs.lemmas.List.Folds.{find-append}
+use Rattle.std.proofs.lemmas.List.Sums.{fails_before_first, passes_at_first}
 use Rattle.std.proofs.lemmas.Nat.{mul-add-lt, div-mul-add, div_below}
-use Rattle.std.proofs.lemmas.Bool.{cases_eq}
+use Rattle.std.proofs.lemmas.Bool.{cases_eq, cases_lt}
 use Rattle.faults.specs.First.{or_else, first}
 
 -- one more that fails
@@ -63,3 +67,35 @@ first_block t u i n size some same h e f =
 
 pub first_no_block : (t u : ℕ → Bool) (n size : ℕ) → 0 < size → ((x : ℕ) → x < n * size → t x ≡ u (x / size)) → first u n ≡ None → first t (n * size) ≡ None
 first_no_block t u n size some same e = block_false t u n size some same e
+
+-- the first item of a list that passes
+module _ {X : Type 0} (p : X → Bool) (d : X) where
+  pub position_first : (xs : List X) → position p xs ≡ first (λ i. p (get_or xs i d)) (length xs)
+  position_first xs = by (cases_lt (position_or_len p xs) (length xs))
+    where
+      t : ℕ → Bool
+      t i = p (get_or xs i d)
+
+      by : (position_or_len p xs < length xs) ⊎ (length xs ≤ position_or_len p xs) → position p xs ≡ first t (length xs)
+      by (inl h) =
+          let found : position p xs ≡ Some (position_or_len p xs) = grind arith in
+          found ∙ sym (first_found t (position_or_len p xs) (length xs) (first_all t (position_or_len p xs) (λ i k. fails_before_first p xs i d k)) (passes_at_first p xs d h) h)
+      by (inr h) =
+          let none : position p xs ≡ None = grind arith in
+          none ∙ sym (first_all t (length xs) (λ i k. fails_before_first p xs i d (omega arith)))
+
+-- the first number of a range that passes
+pub range_more : (a n : ℕ) → range_with_len a (suc n) ≡ range_with_len a n ++ (a + n) ∷ []
+range_more a zero = let e : a ≡ a + 0 = omega arith in ap (λ k. k ∷ []) e
+range_more a (suc n) = let e : (a + 1) + n ≡ a + suc n = omega arith in ap (λ l. a ∷ l) (range_more (a + 1) n ∙ ap (λ k. range_with_len (a + 1) n ++ k ∷ []) e)
+
+or_else_same : (o u : Option ℕ) → option_or o u ≡ or_else o u
+or_else_same None u = refl
+or_else_same (Some i) u = refl
+
+pub find_first : (t : ℕ → Bool) (n : ℕ) → find t (range_with_len 0 n) ≡ first t n
+find_first t zero = refl
+find_first t (suc n) =
+    let e : 0 + n ≡ n = omega arith in
+    let more : range_with_len 0 (suc n) ≡ range_with_len 0 n ++ n ∷ [] = range_more 0 n ∙ ap (λ k. range_with_len 0 n ++ k ∷ []) e in
+    ap (find t) more ∙ find-append t (range_with_len 0 n) (n ∷ []) ∙ or_else_same (find t (range_with_len 0 n)) (find t (n ∷ [])) ∙ ap (λ o. or_else o (cond (t n) (Some n) None)) (find_first t n)

@@ -1,12 +1,9 @@
 // The one type of refusal: what went wrong, in which layer, and where.
 #![tactic(auto)]
 
-ghost use Rattle.std.specs.Prelude.{◌≡◌, ◌==◌, true, Some};
-ghost use Rattle.std.specs.Ordering.{eq_of_both, on};
+ghost use Rattle.std.specs.Prelude.{◌≡◌, Some};
 ghost use Rattle.faults.specs.declared.Fault.TheVariants.{NoMemory};
 ghost use Rattle.faults.specs.Rows.{row_of, printed};
-ghost use Rattle.std.specs.Cmp.Rules.{comparing};
-ghost use Rattle.std.proofs.Common.{rules};
 
 use std::alloc::{AllocError, AllocFailed};
 use std::error::Error;
@@ -15,8 +12,8 @@ use std::fmt;
 // The most bytes that an input of text lines has.
 pub const MOST_INPUT: usize = 16_384;
 
-// Why a call is refused: a case for each row of the table in docs/refusals.md.
-#[derive(Clone, Copy, Debug)]
+// Why a call is refused: a case for each row of the table in docs/refusals.md, and equal only to itself.
+#[derive(Clone, Copy, Debug, PartialEq, Eq)]
 pub enum Fault {
     // Q1: there are not as many samples as places for levels; this many samples.
     SampleCount(usize),
@@ -64,6 +61,7 @@ pub enum Fault {
 
 impl Fault {
     // The row of the table, as its letter, its number and the place.
+    // Kept: a letter and a number, as they are printed and promised; the kind itself is the case.
     fn row(&self) -> (char, u8, usize)
         ensures { (result.0 ≡ (row_of self.now).layer) × ((result.1 ≡ (row_of self.now).number) × (result.2 ≡ (row_of self.now).place)) }
     {
@@ -111,22 +109,6 @@ impl Fault {
         ensures { result ≡ (row_of self.now).place }
     {
         self.row().2
-    }
-}
-
-// Whether it is the same fault: no two have letter, number and place alike.
-impl PartialEq for Fault {
-    ghost eq = { eq_of_both (on (λ f. (row_of f).layer) ◌==◌) (eq_of_both (on (λ f. (row_of f).number) ◌==◌) (on (λ f. (row_of f).place) ◌==◌)) };
-
-    ghost laws = { Prim.search (comparing, rules) };
-
-    fn eq(&self, other: &Fault) -> bool
-        ensures value { result ≡ ⟦<Fault as PartialEq>⟧.eq self.now other.now }
-        ensures exact { (result ≡ true → self.now ≡ other.now) × (self.now ≡ other.now → result ≡ true) }
-    {
-        self.layer() == other.layer()
-            && self.number() == other.number()
-            && self.place() == other.place()
     }
 }
 

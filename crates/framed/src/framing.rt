@@ -1,36 +1,17 @@
 // Frames: what an opening refuses, a limit of no rounds, codes of another size, and records of the
 // caller's own making.
-use crate::making::show_made;
 use decoder::Frame;
 use engine::{Bit, Sign};
 use faults::Fault;
 use listed::{Listed, Pair};
 use noise::Silent;
-use plain::Verdict;
 use rules::Single;
 use std::alloc::Global;
 
-const BLANK: Bit = Bit {
-    digit: false,
-    level: 0,
-    score: 0,
-    mark: false,
-};
-
-// One check of two bits.
-fn two(heap: Global) -> Result<Listed, Fault> {
-    let pairs = [Pair { check: 0, bit: 0 }, Pair { check: 0, bit: 1 }];
-    Listed::new(heap, 2, 1, &pairs, &pairs)
-}
-
-// One check of three bits.
-fn three(heap: Global) -> Result<Listed, Fault> {
-    let pairs = [
-        Pair { check: 0, bit: 0 },
-        Pair { check: 0, bit: 1 },
-        Pair { check: 0, bit: 2 },
-    ];
-    Listed::new(heap, 3, 1, &pairs, &pairs)
+// One check of so many bits.
+fn together(heap: Global, bits: usize) -> Result<Listed, Fault> {
+    let pairs: Vec<Pair> = (0..bits).map(|bit| Pair { check: 0, bit }).collect(heap)?;
+    Listed::new(heap, bits, 1, &pairs, &pairs)
 }
 
 // Two checks, each of one bit.
@@ -46,25 +27,26 @@ fn show_opening(
     weight: u8,
     limit: usize,
 ) -> anyhow::Result<()> {
-    let mut records = [BLANK; 2];
-    let mut signs = [Sign::Met; 1];
+    let mut records = [Bit::default(); 2];
+    let mut signs = [Sign::default(); 1];
     print!(rt; "levels {levels:?}, weight {weight}, limit {limit}")?;
-    show_made(
-        rt,
-        Frame::open(
-            code,
-            &mut Single,
-            levels,
-            weight,
-            limit,
-            &mut records,
-            &mut signs,
-        ),
-    )
+    match Frame::open(
+        code,
+        &mut Single,
+        levels,
+        weight,
+        limit,
+        &mut records,
+        &mut signs,
+    ) {
+        Ok(_) => println!(rt; ": made")?,
+        Err(fault) => println!(rt; ": {fault}")?,
+    }
+    Ok(())
 }
 
 pub(crate) fn openings(rt: &HostRuntime) -> anyhow::Result<()> {
-    let code = two(rt.alloc())?;
+    let code = together(rt.alloc(), 2)?;
     show_opening(rt, &code, &[1, -1], 0, 10)?;
     show_opening(rt, &code, &[1, -1], 1, 10)?;
     show_opening(rt, &code, &[1, -1], 16, 10)?;
@@ -77,24 +59,16 @@ pub(crate) fn openings(rt: &HostRuntime) -> anyhow::Result<()> {
     show_opening(rt, &code, &[1, -1, 1], 0, 1001)
 }
 
-fn name_of(verdict: Verdict) -> &'static str {
-    match verdict {
-        Verdict::Decoded => "decoded",
-        Verdict::Spent => "spent",
-    }
-}
-
 // A limit of no rounds, with an unmet check, and codes of another size.
 pub(crate) fn limits_and_sizes(rt: &HostRuntime) -> anyhow::Result<()> {
-    let code = two(rt.alloc())?;
-    let mut records = [BLANK; 2];
-    let mut signs = [Sign::Met; 1];
+    let code = together(rt.alloc(), 2)?;
+    let mut records = [Bit::default(); 2];
+    let mut signs = [Sign::default(); 1];
     let mut rule = Single;
     let mut frame = Frame::open(&code, &mut rule, &[1, -1], 3, 0, &mut records, &mut signs)?;
     let ended = frame.decode(&code, &mut rule, &Silent, &mut records, &mut signs)?;
-    let verdict = name_of(ended.verdict);
-    println!(rt; "limit 0: {verdict} after {} rounds", ended.rounds)?;
-    let longer = three(rt.alloc())?;
+    println!(rt; "limit 0: {} after {} rounds", ended.verdict, ended.rounds)?;
+    let longer = together(rt.alloc(), 3)?;
     if let Err(fault) = frame.decode(&longer, &mut rule, &Silent, &mut records, &mut signs) {
         println!(rt; "a code of three bits: {fault}")?;
     }
@@ -125,9 +99,9 @@ fn show_toggle(
 
 // Scores at both ends of their type: what would pass the end stays there.
 pub(crate) fn own_records(rt: &HostRuntime) -> anyhow::Result<()> {
-    let code = two(rt.alloc())?;
-    let mut records = [BLANK; 2];
-    let mut signs = [Sign::Met; 1];
+    let code = together(rt.alloc(), 2)?;
+    let mut records = [Bit::default(); 2];
+    let mut signs = [Sign::default(); 1];
     let mut frame = Frame::open(
         &code,
         &mut Single,

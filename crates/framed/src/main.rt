@@ -3,7 +3,6 @@
 
 mod answering;
 mod framing;
-mod making;
 
 fn run(rt: &HostRuntime) -> anyhow::Result<()> {
     framing::openings(rt)?;

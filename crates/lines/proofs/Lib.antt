@@ -1,4 +1,3 @@
 pub mod Pairs
 pub mod Words
-pub mod Ruled
 pub mod Feeds

@@ -1,6 +1,6 @@
 -- Hexadecimal digits, and the levels that two of them make, in two's complement. Assumes nothing.
-use Rattle.std.specs.Prelude.{◌≡◌, ℕ, ◌+◌, ◌-◌, ◌*◌, ◌/◌, ◌%◌, Bool, cond, not, ◌&&◌, List, [], ◌∷◌, length, ℤ, pos, negsuc, ◌≤ℤ◌, is_some, Some, None, Option, ◌==◌, nat_le, nat_lt, slice_index}
-use Rattle.faults.specs.First.{first, fault_at}
+use Rattle.std.specs.Prelude.{◌≡◌, ℕ, ◌+◌, ◌-◌, ◌*◌, ◌/◌, ◌%◌, Bool, cond, ◌&&◌, List, [], ◌∷◌, length, ℤ, pos, negsuc, ◌≤ℤ◌, is_none, Some, None, Option, ◌==◌, nat_le, nat_lt, position}
+use Rattle.faults.specs.First.{fault_at}
 use Rattle.faults.specs.Rows.{Row, T}
 
 -- what a byte is worth as a digit: from 0 to 9, and from a to f
@@ -40,11 +40,9 @@ RoundTrip = (z : ℤ) → negsuc 127 ≤ℤ z → z ≤ℤ pos 127 → level_of 
 abbrev pub most_digits : ℕ
 most_digits = 8192
 
-abbrev pub bad_digit : List ℕ → ℕ → Bool
-bad_digit ds i = not (is_some (nibble (slice_index ds i)))
-
+-- the first byte that is no digit
 abbrev pub first_bad : List ℕ → Option ℕ
-first_bad ds = first (bad_digit ds) (length ds)
+first_bad ds = position (λ d. is_none (nibble d)) ds
 
 abbrev pub count_fits : ℕ → Bool
 count_fits n = n % 2 == 0 && nat_le n most_digits

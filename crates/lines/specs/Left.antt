@@ -5,4 +5,4 @@ use Rattle.lines.specs.Parts.{bytes_of}
 use Rattle.lines.specs.Lines.{Seen, kinds, lines_from}
 
 abbrev pub left_of : Text → List Seen
-left_of t = kinds t.begun (lines_from t.rest.from (bytes_of t.rest))
+left_of t = kinds t.begun (lines_from t.rest.place (bytes_of t.rest))

@@ -1,5 +1,5 @@
 -- How an input falls into lines. Assumes nothing.
-use Rattle.std.specs.Prelude.{◌≡◌, ℕ, suc, ◌+◌, Bool, true, false, cond, ◌⊎◌, List, [], ◌∷◌, ◌++◌, map, ◌==◌}
+use Rattle.std.specs.Prelude.{◌≡◌, ℕ, ◌+◌, ◌≤◌, Bool, true, false, cond, ◌⊎◌, List, [], ◌∷◌, ◌++◌, length, map, All, ◌==◌}
 use Rattle.lines.specs.declared.line.Line.{Line}
 use Rattle.lines.specs.declared.line.Line.TheVariants.{Rule, Frame}
 use Rattle.lines.specs.declared.part.Part.{Part}
@@ -24,11 +24,6 @@ abbrev pub lines_from : ℕ → List ℕ → List Placed
 lines_from at [] = []
 lines_from at (b ∷ bs) = cond (b == feed) (record { at = at; bytes = [] } ∷ lines_from (at + 1) bs) (onto at b (lines_from (at + 1) bs))
 
--- how many bytes stand before the first line feed
-abbrev pub before_feed : List ℕ → ℕ
-before_feed [] = 0
-before_feed (b ∷ bs) = cond (b == feed) 0 (suc (before_feed bs))
-
 -- ---- the first line is a rule, and all others are frames
 pub data Seen : Type 0 where
   rule : Placed → Seen
@@ -40,7 +35,7 @@ kinds false [] = []
 kinds false (l ∷ ls) = rule l ∷ map frame ls
 
 abbrev pub placed_of : Part → Placed
-placed_of p = record { at = p.from; bytes = bytes_of p }
+placed_of p = record { at = p.place; bytes = bytes_of p }
 
 abbrev pub seen : Line → Seen
 seen (Rule p) = rule (placed_of p)
@@ -53,3 +48,7 @@ joined (l ∷ ls) = l.bytes ++ (feed ∷ joined ls)
 
 abbrev pub JoinedAgain : Type 0
 JoinedAgain = (at : ℕ) (bs : List ℕ) → (joined (lines_from at bs) ≡ bs) ⊎ (joined (lines_from at bs) ≡ bs ++ (feed ∷ []))
+
+-- ---- each line lies within the bytes that it was taken from
+abbrev pub LinesInside : Type 0
+LinesInside = (at : ℕ) (bs : List ℕ) → All (λ (l : Placed). (at ≤ l.at) × (l.at + length l.bytes ≤ at + length bs)) (lines_from at bs)

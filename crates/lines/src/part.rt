@@ -1,41 +1,42 @@
 // A part of an input.
-ghost use Rattle.std.specs.Prelude.{◌≡◌, ◌+◌, ◌<◌, ◌≤◌, min, length};
-ghost use Rattle.lines.specs.Parts.{bytes_of};
+ghost use Rattle.std.specs.Prelude.{◌≡◌, ◌+◌, ◌<◌, ◌≤◌, ◌^◌, drop, length};
 
-// The bytes of an input from one place on, and up to another.
-#[derive(Clone, Copy)]
+// Bytes that follow one another in an input, and where in it they begin.
+#[derive(Clone, Copy, Debug, PartialEq, Eq)]
 pub struct Part<'a> {
-    pub(crate) input: &'a [u8],
-    pub(crate) from: usize,
-    pub(crate) to: usize,
-}
-
-// Where a part ends, within an input of this size.
-fn end_within(to: usize, size: usize) -> usize
-    ensures { result ≡ min to size }
-{
-    to.min(size)
+    pub(crate) bytes: &'a [u8],
+    pub(crate) place: usize,
+    ghost within: { place + length bytes.now < 2 ^ 64 },
 }
 
 impl<'a> Part<'a> {
+    ghost use Rattle.lines.specs.Parts.{bytes_of};
+
+    // What comes after so many bytes.
+    pub(crate) fn skip(self, count: usize) -> Part<'a>
+        requires { count ≤ length (bytes_of self) }
+        ensures bytes { bytes_of result ≡ drop count (bytes_of self.entry) }
+        ensures place { result.place ≡ self.entry.place + count }
+    {
+        let Part { bytes, place } = self;
+        Part {
+            bytes: &bytes[count..],
+            place: place + count,
+        }
+    }
+
     // The bytes of this part.
     pub fn bytes(&self) -> &'a [u8]
         ensures value { result.now ≡ bytes_of self.now }
-        ensures within { 0 < length result.now → self.now.from + length result.now ≤ length self.now.input.now }
+        ensures within { self.now.place + length result.now < 2 ^ 64 }
     {
-        let end = end_within(self.to, self.input.len());
-        if self.from < end {
-            &self.input[self.from..end]
-        } else {
-            &[]
-        }
+        self.bytes
     }
 
     // Where in the input they begin.
     pub fn place(&self) -> usize
-        ensures { result ≡ self.now.from }
+        ensures { result ≡ self.now.place }
     {
-        let Part { from, .. } = *self;
-        from
+        self.place
     }
 }

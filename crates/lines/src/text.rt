@@ -1,79 +1,66 @@
 // The lines of an input, one after another.
-ghost use Rattle.std.specs.Prelude.{◌≡◌, ◌<◌, ◌≤◌, false, [], ◌∷◌, map, length, Some, None, MatchOption, MatchResult};
+ghost use Rattle.std.specs.Prelude.{◌≡◌, ◌<◌, ◌≤◌, ◌==◌, false, [], ◌∷◌, map, position, length, IfSome, Some, None, MatchOption, MatchResult};
 ghost use Rattle.faults.specs.Rows.{row_of, T, most_input};
 ghost use Rattle.rules.specs.Chosen.{meaning_of, state_of};
 ghost use Rattle.rules.specs.declared.mode.Mode.TheVariants.{Many};
 ghost use Rattle.lines.specs.Left.{left_of};
 ghost use Rattle.lines.specs.Parts.{bytes_of};
-ghost use Rattle.lines.specs.Lines.{lines_from, before_feed, kinds, placed_of, frame, seen, JoinedAgain};
+ghost use Rattle.lines.specs.Lines.{feed, lines_from, kinds, placed_of, frame, seen, JoinedAgain, LinesInside};
 ghost use Rattle.lines.specs.Open.{first_rule, later_lines, open_fault};
 
 use crate::line::Line;
 use crate::part::Part;
-use faults::Fault;
+use faults::{Fault, MOST_INPUT};
 use rules::Chosen;
 
-const MOST_INPUT: usize = 16384;
-
 // What is left of an input, and whether its first line was taken.
-#[derive(Clone, Copy)]
+#[derive(Clone, Copy, Debug, PartialEq, Eq)]
 pub struct Text<'a> {
     rest: Part<'a>,
+    // Kept: an enum of two states only renames true and false; it is asked and set in one function.
     begun: bool,
 }
 
-// How many bytes stand before the first line feed.
-fn line_end(bytes: &[u8]) -> usize
-    ensures value { result ≡ before_feed bytes.now }
-    ensures within { result ≤ length bytes.now }
+// Where the first line feed stands.
+fn line_end(bytes: &[u8]) -> Option<usize>
+    ensures value { result ≡ position (λ b. b == feed) bytes.now }
+    ensures within { IfSome result (λ n. n < length bytes.now) }
 {
-    let mut n = 0;
-    for b in bytes {
-        if *b == b'\n' {
-            return n;
-        }
-        n += 1;
-    }
-    n
+    bytes.iter().position(|b| *b == b'\n')
 }
 
 // The first line, and what comes after it.
+#[tactic(auto, using(crate::proofs::Feeds::cut_at, crate::proofs::Feeds::cut_nowhere))]
 fn cut<'a>(part: Part<'a>) -> (Part<'a>, Part<'a>)
     requires { 0 < length (bytes_of part) }
-    ensures { lines_from part.entry.from (bytes_of part.entry) ≡ placed_of result.0 ∷ lines_from result.1.from (bytes_of result.1) }
+    ensures { lines_from part.entry.place (bytes_of part.entry) ≡ placed_of result.0 ∷ lines_from result.1.place (bytes_of result.1) }
 {
-    let bytes = part.bytes();
-    let n = line_end(bytes);
-    let past = if n < bytes.len() { n + 1 } else { n };
-    let input = part.input;
-    let from = part.from;
+    let Part { bytes, place } = part;
+    let Some(n) = line_end(bytes) else {
+        return (part, part.skip(bytes.len()));
+    };
     let line = Part {
-        input,
-        from,
-        to: from + n,
+        bytes: &bytes[..n],
+        place,
     };
-    let rest = Part {
-        input,
-        from: from + past,
-        to: part.to,
-    };
-    (line, rest)
+    (line, part.skip(n + 1))
 }
 
 impl<'a> Text<'a> {
     // An input whose lines are to be taken, or T1 for one of more than 16,384 bytes. The lines, each
-    // with a line feed, are the input, up to a last line feed that it may lack.
+    // with a line feed, are the input, up to a last line feed that it may lack; each lies within it.
+    #[tactic(auto, using(crate::proofs::Feeds::joined_again, crate::proofs::Feeds::lines_inside))]
     pub fn new(input: &'a [u8]) -> Result<Text<'a>, Fault>
         ensures made { MatchResult result (λ t. (length input.now ≤ most_input) × (left_of t ≡ kinds false (lines_from 0 input.now))) (λ e. (most_input < length input.now) × (row_of e ≡ T 1 most_input)) }
         ensures whole { JoinedAgain }
+        ensures inside { LinesInside }
     {
         if input.len() > MOST_INPUT {
             return Err(Fault::InputLength);
         }
         let rest = Part {
-            input,
-            from: 0,
-            to: input.len(),
+            bytes: input,
+            place: 0,
         };
         Ok(Text { rest, begun: false })
     }
@@ -82,7 +69,7 @@ impl<'a> Text<'a> {
     pub fn next_line(&mut self) -> Option<Line<'a>>
         ensures { MatchOption result ((left_of self.old ≡ []) × (self.new ≡ self.old)) (λ l. left_of self.old ≡ seen l ∷ left_of self.new) }
     {
-        if self.rest.bytes().is_empty() {
+        if self.rest.bytes.is_empty() {
             return None;
         }
         let (line, rest) = cut(self.rest);

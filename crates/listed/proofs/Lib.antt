@@ -1,7 +1,7 @@
 pub mod Searched
+pub mod Finds
 pub mod Sorting
 pub mod Pigeons
-pub mod Spans
 pub mod Sets
 pub mod Tables
 pub mod Passing

@@ -1,26 +1,27 @@
 -- Two lists that are not refused make lawful answers, of exactly their pairs.
-use Rattle.std.proofs.Common.{◌≡◌, ℕ, ◌-◌, ◌<◌, ◌≤◌, Bool, true, false, eqb, List, map, length, get_or, None, Option, sym, refl, ap, ◌∙◌, arith, eq-eqb}
+use Rattle.std.proofs.Common.{◌≡◌, ℕ, ◌<◌, ◌≤◌, Bool, true, false, eqb, List, map, length, get_or, None, Option, sym, refl, ap, ◌∙◌, arith, eq-eqb}
 use Rattle.faults.specs.Rows.{C}
-use Rattle.std.proofs.lemmas.Bool.{and_parts, eqb-true, not-false}
+use Rattle.std.specs.List.{range_with_len}
+use Rattle.std.proofs.lemmas.List.{length-map}
+use Rattle.std.proofs.lemmas.List.FromFn.{length-range_with_len}
+use Rattle.std.proofs.lemmas.Bool.{and_parts, eqb-true}
 use Rattle.listed.specs.declared.pair.Pair.{Pair}
 use Rattle.codes.specs.declared.side.Side.{Side}
 use Rattle.codes.specs.declared.side.Side.TheVariants.{ByCheck, ByBit}
-use Rattle.codes.specs.Compact.{span, compact}
+use Rattle.codes.specs.Lists.{held_by}
 use Rattle.codes.specs.Degrees.{outside, wrong_check, wrong_bit, degree_fault}
 use Rattle.faults.specs.First.{first, fault_at}
-use Rattle.codes.specs.Most.{most}
 use Rattle.codes.specs.Limits.{most_in_check, most_at_bit}
-use Rattle.listed.specs.Listing.{wrong_count, list_fault, listed_pairs, MadeListed, Starts}
-use Rattle.listed.specs.Order.{blank, minor_of, same_pair, has_pair, missing_at, count_in, code_of, Sorted}
+use Rattle.listed.specs.Listing.{wrong_count, mismatch_fault, listed_pairs, MadeListed}
+use Rattle.listed.specs.Order.{blank, same_pair, has_pair, count_in, row_of, code_of}
 use Rattle.codes.proofs.Counts.{count_same}
 use Rattle.faults.proofs.Firsts.{first_none, first_same}
 use Rattle.codes.proofs.Limiting.{in_limits}
 use Rattle.codes.proofs.Sizes.{widest_most_lem, widest_met_lem}
 use Rattle.listed.proofs.Searched.{has_here, has_where}
 use Rattle.listed.proofs.Pigeons.{pigeons}
-use Rattle.listed.proofs.Spans.{span_count}
 use Rattle.listed.proofs.Tables.{table}
-use Rattle.listed.proofs.Passing.{Fine, fine, no_mismatch, degrees_fit}
+use Rattle.listed.proofs.Passing.{Fine, fine, faultless, degrees_fit}
 use Rattle.listed.proofs.Sets.{count_set}
 
 -- ---- the pairs of a list
@@ -45,7 +46,7 @@ both_ways false false to back = refl
 module _ (bits checks : ℕ) (xs ys : List Pair) (f : Fine bits checks xs ys) where
   -- ---- each list has the pairs of the other
   over : (i : ℕ) → i < length xs → (j : ℕ) × (j < length ys) × ((get_or ys j blank).check ≡ (get_or xs i blank).check) × ((get_or ys j blank).bit ≡ (get_or xs i blank).bit)
-  over i h = index_of ys (get_or xs i blank) (not-false _ (first_none (missing_at xs ys) (length xs) f.missing i h))
+  over i h = index_of ys (get_or xs i blank) (f.missing i h)
 
   back : (j : ℕ) → j < length ys → (i : ℕ) × (i < length xs) × ((get_or xs i blank).check ≡ (get_or ys j blank).check) × ((get_or xs i blank).bit ≡ (get_or ys j blank).bit)
   back j h =
@@ -85,36 +86,31 @@ module _ (bits checks : ℕ) (xs ys : List Pair) (f : Fine bits checks xs ys) wh
   pub degrees_are : (o u : Option ℕ) → o ≡ first (wrong_count 1 most_in_check ByCheck xs) checks → u ≡ first (wrong_count 0 most_at_bit ByBit ys) bits → fault_at (C 4) o (fault_at (C 4) u None) ≡ degree_fault (listed_pairs bits checks xs)
   degrees_are o u e d = λ i. fault_at (C 4) ((e ∙ row_degrees) i) (fault_at (C 4) ((d ∙ column_degrees) i) None)
 
--- ---- the spans within their limits
-spans_few : (least top : ℕ) (s : Side) (xs : List Pair) (count : ℕ) (starts : List ℕ) → Sorted s xs → Starts s xs count starts → first (wrong_count least top s xs) count ≡ None → (c : ℕ) → c < count → (least ≤ span starts c) × (span starts c ≤ top)
-spans_few least top s xs count starts o t e c h =
-    let b = in_limits least top (count_in s xs c) (first_none (wrong_count least top s xs) count e c h) in
-    let n = span_count s xs count starts o t c h in
-    (omega (arith, n, b.0), omega (arith, n, b.1))
+-- ---- counts within their limits
+counts_fit : (least top : ℕ) (s : Side) (xs : List Pair) (count : ℕ) → first (wrong_count least top s xs) count ≡ None → (c : ℕ) → c < count → (least ≤ count_in s xs c) × (count_in s xs c ≤ top)
+counts_fit least top s xs count e c h = in_limits least top (count_in s xs c) (first_none (wrong_count least top s xs) count e c h)
 
 -- ---- all of it
-pub made : (bits checks : ℕ) (xs ys : List Pair) (rs cs : List ℕ) → list_fault bits checks xs ys ≡ None → Starts ByCheck xs checks rs → Starts ByBit ys bits cs → MadeListed bits checks xs ys (compact rs (map (minor_of ByCheck) xs) cs (map (minor_of ByBit) ys) (most (span cs) (length cs - 1)))
-made bits checks xs ys rs cs e t u =
-    let f = fine bits checks xs ys (no_mismatch bits checks xs ys e) in
-    let d = degrees_fit bits checks xs ys e in
-    let nb : length cs - 1 ≡ bits = omega (arith, u.many) in
-    let nc : length rs - 1 ≡ checks = omega (arith, t.many) in
+rows_many : (s : Side) (xs : List Pair) (count : ℕ) (rows : List (List ℕ)) → rows ≡ map (row_of s xs) (range_with_len 0 count) → length rows ≡ count
+rows_many s xs count rows is = ap length is ∙ length-map (range_with_len 0 count) (row_of s xs) ∙ length-range_with_len 0 count
+
+pub made : (bits checks : ℕ) (xs ys : List Pair) (rows columns : List (List ℕ)) → mismatch_fault bits checks xs ys ≡ None → degree_fault (listed_pairs bits checks xs) ≡ None → rows ≡ map (row_of ByCheck xs) (range_with_len 0 checks) → columns ≡ map (row_of ByBit ys) (range_with_len 0 bits) → MadeListed bits checks xs ys (held_by rows columns)
+made bits checks xs ys rows columns e g t u =
+    let f = fine bits checks xs ys e in
+    let d = degrees_fit (listed_pairs bits checks xs) g in
+    let nb = rows_many ByBit ys bits columns u in
     record {
-      allowed = e;
+      allowed = faultless (mismatch_fault bits checks xs ys) (degree_fault (listed_pairs bits checks xs)) e g;
       lawful = record {
         bits = nb;
-        checks = nc;
+        checks = rows_many ByCheck xs checks rows t;
         some_bits = f.some_bits;
         few_bits = f.few_bits;
         some_checks = f.some_checks;
         few_checks = f.few_checks;
-        rows = table ByCheck xs checks bits 1 most_in_check rs (listed_pairs bits checks xs).holds f.rows_sorted t f.rows.bit f.rows.check (spans_few 1 most_in_check ByCheck xs checks rs f.rows_sorted t (row_degrees bits checks xs ys f ∙ d.0)) (λ j h. listed_at xs j _ _ h refl refl) (λ c b h. index_of xs (record { check = c; bit = b }) h);
-        columns = table ByBit ys bits checks 0 most_at_bit cs (λ b c. (listed_pairs bits checks xs).holds c b) f.columns_sorted u f.columns.check f.columns.bit (spans_few 0 most_at_bit ByBit ys bits cs f.columns_sorted u (column_degrees bits checks xs ys f ∙ d.1)) (second_at bits checks xs ys f) (second_of bits checks xs ys f);
-        widest_most = widest_most_lem cs bits u.many;
-        widest_met = widest_met_lem cs bits u.many f.some_bits;
+        rows = table ByCheck xs f.rows_sorted checks bits 1 most_in_check rows (listed_pairs bits checks xs).holds t f.rows.bit (counts_fit 1 most_in_check ByCheck xs checks (row_degrees bits checks xs ys f ∙ d.0)) (λ j h. listed_at xs j _ _ h refl refl) (λ c b h. index_of xs (record { check = c; bit = b }) h);
+        columns = table ByBit ys f.columns_sorted bits checks 0 most_at_bit columns (λ b c. (listed_pairs bits checks xs).holds c b) u f.columns.check (counts_fit 0 most_at_bit ByBit ys bits (column_degrees bits checks xs ys f ∙ d.1)) (second_at bits checks xs ys f) (second_of bits checks xs ys f);
+        widest_most = widest_most_lem columns;
+        widest_met = widest_met_lem columns (omega (arith, nb, f.some_bits));
       };
     }
-
--- the same of lists that are equal to those
-pub made_as : (bits checks : ℕ) (xs ys : List Pair) (rs cs bs ds : List ℕ) (w : ℕ) → list_fault bits checks xs ys ≡ None → Starts ByCheck xs checks rs → Starts ByBit ys bits cs → bs ≡ map (minor_of ByCheck) xs → ds ≡ map (minor_of ByBit) ys → w ≡ most (span cs) (length cs - 1) → MadeListed bits checks xs ys (compact rs bs cs ds w)
-made_as bits checks xs ys rs cs bs ds w e t u eb ed ew = rw (eb, ed, ew) (made bits checks xs ys rs cs e t u)

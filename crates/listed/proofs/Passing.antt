@@ -1,6 +1,7 @@
 -- What the tests that were passed say of two lists.
-use Rattle.std.proofs.Common.{◌≡◌, ℕ, ◌≤◌, Bool, true, false, cond, eqb, List, length, Some, None, Option, sym, refl}
-use Rattle.std.proofs.lemmas.Bool.{eqb-true}
+use Rattle.std.proofs.Common.{◌≡◌, ℕ, ◌<◌, ◌≤◌, Bool, not, get_or, position, true, false, cond, eqb, List, length, Some, None, Option, sym, refl, ap, ◌∙◌}
+use Rattle.std.proofs.lemmas.Bool.{eqb-true, not-false}
+use Rattle.faults.proofs.Firsts.{first_none, position_first}
 use Rattle.faults.specs.Rows.{Row, C}
 use Rattle.listed.specs.declared.pair.Pair.{Pair}
 use Rattle.codes.specs.declared.side.Side.{Side}
@@ -8,8 +9,9 @@ use Rattle.codes.specs.declared.side.Side.TheVariants.{ByCheck, ByBit}
 use Rattle.codes.specs.Limits.{most_bits, most_checks, sizes_fit}
 use Rattle.codes.specs.Degrees.{wrong_check, wrong_bit, degree_fault}
 use Rattle.faults.specs.First.{first, fault_at, or_fault}
-use Rattle.listed.specs.Order.{bad_at, missing_at, Sorted}
-use Rattle.listed.specs.Listing.{listed_pairs, mismatch_fault, list_fault}
+use Rattle.listed.specs.Order.{blank, bad_at, has_pair, Sorted}
+use Rattle.listed.specs.Listing.{mismatch_fault}
+use Rattle.codes.specs.Pairs.{Pairs}
 use Rattle.codes.proofs.Absent.{none_some}
 use Rattle.codes.proofs.Limiting.{limits}
 use Rattle.listed.proofs.Sorting.{Good, good, sorted}
@@ -48,11 +50,11 @@ pub record Fine (bits checks : ℕ) (xs ys : List Pair) : Type 0 where
   pub rows_sorted : Sorted ByCheck xs
   pub columns_sorted : Sorted ByBit ys
   pub lengths : length xs ≡ length ys
-  pub missing : first (missing_at xs ys) (length xs) ≡ None
+  pub missing : (i : ℕ) → i < length xs → has_pair ys (get_or xs i blank) ≡ true
 
 pub fine : (bits checks : ℕ) (xs ys : List Pair) → mismatch_fault bits checks xs ys ≡ None → Fine bits checks xs ys
 fine bits checks xs ys e =
-    let p = passed (sizes_fit bits checks) (first (bad_at bits checks ByCheck xs) (length xs)) (first (bad_at bits checks ByBit ys) (length ys)) (eqb (length xs) (length ys)) (first (missing_at xs ys) (length xs)) e in
+    let p = passed (sizes_fit bits checks) (first (bad_at bits checks ByCheck xs) (length xs)) (first (bad_at bits checks ByBit ys) (length ys)) (eqb (length xs) (length ys)) (position (λ p. not (has_pair ys p)) xs) e in
     let l = limits bits checks p.counts in
     record {
       some_bits = l.0;
@@ -64,16 +66,12 @@ fine bits checks xs ys e =
       rows_sorted = sorted_list bits checks ByCheck xs p.counts (sym p.rows);
       columns_sorted = sorted_list bits checks ByBit ys p.counts (sym p.columns);
       lengths = eqb-true (length xs) (length ys) p.lengths;
-      missing = p.missing;
+      missing = λ i h. not-false _ (first_none (λ k. not (has_pair ys (get_or xs k blank))) (length xs) (sym (position_first (λ p. not (has_pair ys p)) blank xs) ∙ p.missing) i h);
     }
 
 -- ---- lists without a fault
-or_none : (o u : Option Row) → or_fault o u ≡ None → (o ≡ None) × (u ≡ None)
-or_none None u e = (refl, e)
-or_none (Some r) u e = none_some r (sym e)
-
-pub no_mismatch : (bits checks : ℕ) (xs ys : List Pair) → list_fault bits checks xs ys ≡ None → mismatch_fault bits checks xs ys ≡ None
-no_mismatch bits checks xs ys e = (or_none (mismatch_fault bits checks xs ys) (degree_fault (listed_pairs bits checks xs)) e).0
+pub faultless : (o u : Option Row) → o ≡ None → u ≡ None → or_fault o u ≡ None
+faultless o u e f = ap (λ r. or_fault r u) e ∙ f
 
 -- the checks and the bits that are outside their limits: none
 degrees : (o u : Option ℕ) → fault_at (C 4) o (fault_at (C 4) u None) ≡ None → (o ≡ None) × (u ≡ None)
@@ -81,5 +79,5 @@ degrees (Some i) u e = none_some _ (sym e)
 degrees None (Some i) e = none_some _ (sym e)
 degrees None None e = (refl, refl)
 
-pub degrees_fit : (bits checks : ℕ) (xs ys : List Pair) → list_fault bits checks xs ys ≡ None → (first (wrong_check (listed_pairs bits checks xs)) checks ≡ None) × (first (wrong_bit (listed_pairs bits checks xs)) bits ≡ None)
-degrees_fit bits checks xs ys e = degrees (first (wrong_check (listed_pairs bits checks xs)) checks) (first (wrong_bit (listed_pairs bits checks xs)) bits) (or_none (mismatch_fault bits checks xs ys) (degree_fault (listed_pairs bits checks xs)) e).1
+pub degrees_fit : (p : Pairs) → degree_fault p ≡ None → (first (wrong_check p) p.checks ≡ None) × (first (wrong_bit p) p.bits ≡ None)
+degrees_fit p e = degrees (first (wrong_check p) p.checks) (first (wrong_bit p) p.bits) e

@@ -1,11 +1,25 @@
 -- Lists of pairs that rise, and what a search in one finds.
-use Rattle.std.proofs.Common.{◌≡◌, ℕ, zero, suc, ◌-◌, ◌<◌, ◌≤◌, true, false, eqb, List, [], ◌∷◌, length, get_or, sym, refl, ap, ◌∙◌, ⊎_elim, arith}
+use Rattle.std.proofs.Common.{◌≡◌, ℕ, zero, suc, ◌+◌, ◌-◌, ◌*◌, ◌<◌, ◌≤◌, Bool, true, false, eqb, leb, ltb, List, [], ◌∷◌, length, get_or, take, drop, filter, Result, Ok, Err, sym, refl, ap, ◌∙◌, ⊎_elim, arith}
+use denote.Param.Members.{Mut}
+use denote.Ref.{Bor}
+use Rattle.std.specs.Fn.{Called, ComputesKey}
+use Rattle.std.specs.List.{AllWithin}
+use Rattle.std.specs.List.Sorted.{IsNonDecreasingBy, IsPartitionedBy, IsPartitionPoint, IsBinarySearchResult, IsSearchInRange}
+use Rattle.std.specs.declared.cmp.Ordering.{Ordering}
+use Rattle.std.specs.Ordering.{is_eq, nat_cmp, ordering_then, ordering_index}
+use Rattle.std.specs.Result.{is_ok}
 use Rattle.std.proofs.lemmas.Bool.{cases_eq, cases_lt, cases_Bool, and_parts, eqb-true}
+use Rattle.std.proofs.lemmas.Bool.Decides.{nat_tests}
+use Rattle.std.proofs.lemmas.Fn.{always_returns_same}
+use Rattle.std.proofs.lemmas.List.{get_or_default}
+use Rattle.std.proofs.lemmas.List.Elements.{All-filter}
+use Rattle.std.proofs.lemmas.List.Recursion.{or_at, or_from_places}
+use Rattle.std.proofs.lemmas.List.Sorted.{IsNonDecreasingBy-from_default, IsPartitionPoint-from_clause, IsPartitionedBy-leb, IsPartitionedBy-ltb}
 use Rattle.listed.specs.declared.pair.Pair.{Pair}
 use Rattle.codes.specs.declared.side.Side.{Side}
 use Rattle.codes.specs.declared.side.Side.TheVariants.{ByCheck, ByBit}
 use Rattle.codes.specs.Limits.{stride}
-use Rattle.listed.specs.Order.{blank, major_of, minor_of, same_pair, has_pair, code_of, Sorted, Parts}
+use Rattle.listed.specs.Order.{blank, major_of, minor_of, same_pair, has_pair, code_of, Sorted}
 
 pub upto : (s : Side) (xs : List Pair) → Sorted s xs → (i j : ℕ) → i ≤ j → j < length xs → code_of s (get_or xs i blank) ≤ code_of s (get_or xs j blank)
 upto s xs o i j h l =
@@ -18,37 +32,12 @@ pub minor_small : (s : Side) (xs : List Pair) → Sorted s xs → (i : ℕ) → 
 minor_small ByCheck xs o i h = o.small_bit i h
 minor_small ByBit xs o i h = o.small_check i h
 
-pub major_small : (s : Side) (xs : List Pair) → Sorted s xs → (i : ℕ) → i < length xs → major_of s (get_or xs i blank) < stride
-major_small ByCheck xs o i h = o.small_check i h
-major_small ByBit xs o i h = o.small_bit i h
-
-index_le : (s : Side) (xs : List Pair) → Sorted s xs → (i : ℕ) → i < length xs → i ≤ code_of s (get_or xs i blank)
-index_le s xs o zero h = omega arith
-index_le s xs o (suc i) h = omega (arith, index_le s xs o i (omega arith), o.rises i (suc i) (omega arith) h)
-
--- so a list is short enough to count in 32 bits
-pub short : (s : Side) (xs : List Pair) → Sorted s xs → length xs ≤ 16777216
-short s xs o =
-    ⊎_elim
-    (λ (l : 0 < length xs).
-    let h : length xs - 1 < length xs = omega arith in
-    omega (arith, index_le s xs o (length xs - 1) h, major_small s xs o (length xs - 1) h, minor_small s xs o (length xs - 1) h))
-    (λ (l : length xs ≤ 0). omega arith)
-    (cases_lt 0 (length xs))
-
 -- ---- membership
 pub has_here : (xs : List Pair) (p : Pair) (i : ℕ) → i < length xs → same_pair (get_or xs i blank) p ≡ true → has_pair xs p ≡ true
-has_here [] p i h e = absurd (omega arith)
-has_here (x ∷ xs) p zero h e = rw e
-has_here (x ∷ xs) p (suc i) h e = ⊎_elim (λ (y : same_pair x p ≡ true). rw y) (λ (y : same_pair x p ≡ false). rw y (has_here xs p i (omega arith) e)) (cases_Bool (same_pair x p))
+has_here xs p i h e = or_at (λ l. has_pair l p) (λ x. same_pair x p) refl (λ x l. refl) xs i blank h e
 
 pub has_nowhere : (xs : List Pair) (p : Pair) → ((i : ℕ) → i < length xs → same_pair (get_or xs i blank) p ≡ true → ⊥) → has_pair xs p ≡ false
-has_nowhere [] p never = refl
-has_nowhere (x ∷ xs) p never =
-    ⊎_elim
-    (λ (y : same_pair x p ≡ true). absurd (never 0 (omega arith) y))
-    (λ (y : same_pair x p ≡ false). rw y (has_nowhere xs p (λ i h. never (suc i) (omega arith))))
-    (cases_Bool (same_pair x p))
+has_nowhere xs p never = or_from_places (λ l. has_pair l p) (λ x. same_pair x p) refl (λ x l. refl) xs blank (λ i h. ⊎_elim (λ (y : same_pair (get_or xs i blank) p ≡ true). absurd (never i h y)) (λ (y : same_pair (get_or xs i blank) p ≡ false). y) (cases_Bool (same_pair (get_or xs i blank) p)))
 
 pub has_where : (xs : List Pair) (p : Pair) → has_pair xs p ≡ true → (i : ℕ) × (i < length xs) × (same_pair (get_or xs i blank) p ≡ true)
 has_where [] p e = let z : ◌≡◌ {A = ℕ} 0 1 = cc in absurd (omega arith)
@@ -66,24 +55,86 @@ same_code ByBit p q e =
     let b = and_parts (eqb p.check q.check) (eqb p.bit q.bit) e in
     omega (arith, eqb-true p.check q.check b.0, eqb-true p.bit q.bit b.1)
 
--- what a search for the pair parts says
-pub searched_no : (s : Side) (xs : List Pair) (p : Pair) (key i : ℕ) → key ≡ code_of s p → Sorted s xs → Parts s xs key i → (i < length xs → same_pair (get_or xs i blank) p ≡ false) → has_pair xs p ≡ false
-searched_no s xs p key i is o parts no-here =
-    has_nowhere xs p
-    (λ j h e.
-    let same = same_code s (get_or xs j blank) p e in
-    ⊎_elim
-    (λ (l : j < i). let b = parts.below j l in omega arith)
-    (λ (l : i ≤ j).
-    ⊎_elim
-    (λ (at : i ≡ j). let t : same_pair (get_or xs j blank) p ≡ false = rw at at (no-here (omega arith)) in let z : ◌≡◌ {A = ℕ} 0 1 = cc in omega arith)
-    (λ (at : i ≡ j → ⊥). let a = parts.above i (omega arith) (omega arith) in let u = o.rises i j (omega arith) h in omega arith)
-    (cases_eq i j))
-    (cases_lt j i))
+-- ---- a search for a pair
+abbrev pub compared : Side → Pair → Pair → Ordering
+compared s p q = ordering_then (nat_cmp (major_of s p) (major_of s q)) (nat_cmp (minor_of s p) (minor_of s q))
 
-pub searched : (s : Side) (xs : List Pair) (p : Pair) (key i : ℕ) → key ≡ code_of s p → Sorted s xs → Parts s xs key i → i < length xs → same_pair (get_or xs i blank) p ≡ has_pair xs p
-searched s xs p key i is o parts h =
+climbs : (a b c d m n : ℕ) → b < 4096 → d < 4096 → a * 4096 + b ≤ c * 4096 + d → ordering_index (ordering_then (nat_cmp a m) (nat_cmp b n)) ≤ ordering_index (ordering_then (nat_cmp c m) (nat_cmp d n))
+climbs a b c d m n hb hd h = grind (arith, nat_tests)
+
+ties : (s : Side) (p q : Pair) → is_eq (compared s p q) ≡ same_pair p q
+ties ByCheck p q = grind (arith, nat_tests)
+ties ByBit p q = grind (arith, nat_tests)
+
+searched : (s : Side) (xs : List Pair) (p : Pair) (r : Result ℕ ℕ) → Sorted s xs → IsSearchInRange r (length xs) → IsBinarySearchResult (λ y. compared s y p) xs r → is_ok r ≡ has_pair xs p
+searched s xs p (Ok i) o h found = sym (has_here xs p i h (sym (ties s (get_or xs i blank) p) ∙ ap is_eq (found blank)))
+searched s xs p (Err i) o h part =
+    let up : IsNonDecreasingBy (λ y. ordering_index (compared s y p)) xs = IsNonDecreasingBy-from_default (λ y. ordering_index (compared s y p)) xs blank (λ a b l m. climbs _ _ _ _ (major_of s p) (minor_of s p) (minor_small s xs o a (omega arith)) (minor_small s xs o b m) (upto s xs o a b l m)) in
+    let f = part up in
+    sym (has_nowhere xs p (λ j l e.
+    let t = sym e ∙ sym (ties s (get_or xs j blank) p) in
     ⊎_elim
-    (λ (y : same_pair (get_or xs i blank) p ≡ true). y ∙ sym (has_here xs p i h y))
-    (λ (y : same_pair (get_or xs i blank) p ≡ false). y ∙ sym (searched_no s xs p key i is o parts (λ _. y)))
-    (cases_Bool (same_pair (get_or xs i blank) p))
+    (λ (k : j < i). let no-tie : true ≡ false = t ∙ ap is_eq (f.0 j blank (omega arith) k) in cc)
+    (λ (k : i ≤ j). let no-tie : true ≡ false = t ∙ ap is_eq (f.1 j blank k l) in cc)
+    (cases_lt j i)))
+
+-- the same from the clause of the search, by a closure that gives both numbers
+pub found : {F : Type 0} {g : Mut F (Bor Pair × Unit {0}) (ℕ × ℕ)} {f : F} (s : Side) (xs : List Pair) (p : Pair) (key : ℕ × ℕ) (r : Result ℕ ℕ) → key ≡ (major_of s p, minor_of s p) → Sorted s xs → IsSearchInRange r (length xs)
+    → ((of : Pair → ℕ × ℕ) → ComputesKey g of f → IsBinarySearchResult (λ y. ordering_then (nat_cmp (of y).0 key.0) (nat_cmp (of y).1 key.1)) xs r)
+    → ((a : Bor Pair × Unit {0}) (k : ℕ × ℕ) (t : F) → Called g f a k t → (k ≡ (major_of s a.0.now, minor_of s a.0.now)) × (t ≡ f))
+    → is_ok r ≡ has_pair xs p
+found {g = g} {f = f} s xs p key r is o h clause calls =
+    let by = clause (λ y. (major_of s y, minor_of s y)) (always_returns_same g (λ a k. k ≡ (major_of s a.0.now, minor_of s a.0.now)) f calls) in
+    searched s xs p r o h (rw is at by)
+
+-- ---- the pairs of a number
+-- between two places a filter keeps all, and around them nothing
+part_kept : {X : Type 0} (p : X → Bool) (xs : List X) (a n : ℕ) → a + n ≤ length xs → AllWithin (λ y. p y ≡ false) xs 0 a → AllWithin (λ y. p y ≡ true) xs a (a + n) → AllWithin (λ y. p y ≡ false) xs (a + n) (length xs) → take n (drop a xs) ≡ filter p xs
+part_kept p [] a n h low in-part high = let e : a ≡ 0 = omega arith in let f : n ≡ 0 = omega arith in rw (e, f)
+part_kept p (x ∷ xs) (suc a) n h low in-part high =
+    let out : p x ≡ false = low 0 x (omega arith) (omega arith) in
+    let rest = part_kept p xs a n (omega arith) (λ k d l m. low (suc k) d (omega arith) (omega arith)) (λ k d l m. in-part (suc k) d (omega arith) (omega arith)) (λ k d l m. high (suc k) d (omega arith) (omega arith)) in
+    rw out rest
+part_kept p (x ∷ xs) zero (suc n) h low in-part high =
+    let into : p x ≡ true = in-part 0 x (omega arith) (omega arith) in
+    let rest = part_kept p xs zero n (omega arith) (λ k d l m. absurd (omega arith)) (λ k d l m. in-part (suc k) d (omega arith) (omega arith)) (λ k d l m. high (suc k) d (omega arith) (omega arith)) in
+    rw into (ap (λ l. x ∷ l) rest)
+part_kept p (x ∷ xs) zero zero h low in-part high =
+    let out : p x ≡ false = high 0 x (omega arith) (omega arith) in
+    let rest = part_kept p xs zero zero (omega arith) (λ k d l m. absurd (omega arith)) (λ k d l m. absurd (omega arith)) (λ k d l m. high (suc k) d (omega arith) (omega arith)) in
+    rw out rest
+
+pub majors_rise : (s : Side) (xs : List Pair) → Sorted s xs → IsNonDecreasingBy (major_of s) xs
+majors_rise s xs o = IsNonDecreasingBy-from_default (major_of s) xs blank (λ i j l h. omega (arith, upto s xs o i j l h, minor_small s xs o i (omega arith), minor_small s xs o j h))
+
+pub minors_small : (s : Side) (xs : List Pair) (at k : ℕ) (d : Pair) → Sorted s xs → k < length (filter (λ p. eqb (major_of s p) at) xs) → minor_of s (get_or (filter (λ p. eqb (major_of s p) at) xs) k d) < stride
+minors_small s xs at k d o = All-filter (λ p. eqb (major_of s p) at) (λ p. minor_of s p < stride) xs (λ i e h. rw (get_or_default xs i e blank h) (minor_small s xs o i h)) k d
+
+-- what the two searches for a number say: the places come in turn, and hold its pairs between them
+module _ {F G : Type 0} {g : Mut F (Bor Pair × Unit {0}) Bool} {h : Mut G (Bor Pair × Unit {0}) Bool} {f : F} {e : G} (s : Side) (xs : List Pair) (o : Sorted s xs) (at a b : ℕ)
+    (low : a ≤ length xs)
+    (high : b ≤ length xs)
+    (lower : (q : Pair → Bool) → ComputesKey g q f → IsPartitionedBy q xs → IsPartitionPoint (λ y. q y ≡ true) (λ y. q y ≡ false) xs a)
+    (upper : (q : Pair → Bool) → ComputesKey h q e → IsPartitionedBy q xs → IsPartitionPoint (λ y. q y ≡ true) (λ y. q y ≡ false) xs b)
+    (below : (y : Bor Pair × Unit {0}) (r : Bool) (t : F) → Called g f y r t → (r ≡ ltb (major_of s y.0.now) at) × (t ≡ f))
+    (upto : (y : Bor Pair × Unit {0}) (r : Bool) (t : G) → Called h e y r t → (r ≡ leb (major_of s y.0.now) at) × (t ≡ e)) where
+  lower_is : IsPartitionPoint (λ y. ltb (major_of s y) at ≡ true) (λ y. ltb (major_of s y) at ≡ false) xs a
+  lower_is = IsPartitionPoint-from_clause (λ y. ltb (major_of s y) at) xs a lower (IsPartitionedBy-ltb (major_of s) xs at (majors_rise s xs o)) below
+
+  upper_is : IsPartitionPoint (λ y. leb (major_of s y) at ≡ true) (λ y. leb (major_of s y) at ≡ false) xs b
+  upper_is = IsPartitionPoint-from_clause (λ y. leb (major_of s y) at) xs b upper (IsPartitionedBy-leb (major_of s) xs at (majors_rise s xs o)) upto
+
+  pub in_turn : a ≤ b
+  in_turn =
+      ⊎_elim
+      (λ (l : b < a). let f = lower_is.0 b blank (omega arith) l in let g = upper_is.1 b blank (omega arith) (omega arith) in absurd (grind (arith, nat_tests)))
+      (λ (l : a ≤ b). l)
+      (cases_lt b a)
+
+  pub part_is : take (b - a) (drop a xs) ≡ filter (λ p. eqb (major_of s p) at) xs
+  part_is =
+      let l = in_turn in
+      part_kept (λ p. eqb (major_of s p) at) xs a (b - a) (omega arith)
+      (λ k d m n. let f = lower_is.0 k d m n in grind (arith, nat_tests))
+      (λ k d m n. let f = lower_is.1 k d m (omega arith) in let g = upper_is.0 k d (omega arith) (omega arith) in grind (arith, nat_tests))
+      (λ k d m n. let g = upper_is.1 k d (omega arith) n in grind (arith, nat_tests))

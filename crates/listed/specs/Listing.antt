@@ -1,5 +1,5 @@
 -- The making of a listed code: what is refused of two lists of pairs, and what is made of them. Assumes nothing.
-use Rattle.std.specs.Prelude.{◌≡◌, ℕ, ◌+◌, ◌*◌, ◌≤◌, Bool, cond, List, length, Some, None, Option, ◌==◌, slice_index}
+use Rattle.std.specs.Prelude.{◌≡◌, ℕ, Bool, cond, not, List, length, position, Some, None, Option, ◌==◌}
 use Rattle.faults.specs.Rows.{Row, C}
 use Rattle.listed.specs.declared.pair.Pair.{Pair}
 use Rattle.codes.specs.declared.side.Side.{Side}
@@ -8,8 +8,8 @@ use Rattle.codes.specs.Answers.{Answers}
 use Rattle.codes.specs.Degrees.{outside, degree_fault}
 use Rattle.faults.specs.First.{first, fault_at, or_fault}
 use Rattle.codes.specs.Lawful.{Lawful}
-use Rattle.codes.specs.Limits.{stride, sizes_fit}
-use Rattle.listed.specs.Order.{bad_at, has_pair, missing_at, count_in, Parts}
+use Rattle.codes.specs.Limits.{sizes_fit}
+use Rattle.listed.specs.Order.{bad_at, has_pair, count_in}
 use Rattle.codes.specs.Pairs.{Pairs}
 
 -- a check or a bit with too few pairs or too many
@@ -27,7 +27,7 @@ mismatch_fault bits checks xs ys =
     (fault_at (C 2) (first (bad_at bits checks ByCheck xs) (length xs))
     (fault_at (C 2) (first (bad_at bits checks ByBit ys) (length ys))
     (cond (length xs == length ys)
-    (fault_at (C 3) (first (missing_at xs ys) (length xs)) None)
+    (fault_at (C 3) (position (λ p. not (has_pair ys p)) xs) None)
     (Some (C 3 0)))))
     (Some (C 1 0))
 
@@ -39,8 +39,3 @@ list_fault bits checks xs ys = or_fault (mismatch_fault bits checks xs ys) (degr
 pub record MadeListed (bits checks : ℕ) (xs ys : List Pair) (a : Answers) : Type 0 where
   pub allowed : list_fault bits checks xs ys ≡ None
   pub lawful : Lawful a (listed_pairs bits checks xs)
-
--- where each number's pairs begin, and where the last one's end
-pub record Starts (s : Side) (xs : List Pair) (count : ℕ) (starts : List ℕ) : Type 0 where
-  pub many : length starts ≡ count + 1
-  pub parts : (c : ℕ) → c ≤ count → Parts s xs (c * stride) (slice_index starts c)

@@ -1,8 +1,9 @@
 -- Lists of pairs in the two orders, and what is wrong with one. Assumes nothing.
-use Rattle.std.specs.Prelude.{ℕ, ◌+◌, ◌-◌, ◌*◌, ◌<◌, ◌≤◌, Bool, false, not, ◌&&◌, ◌||◌, List, [], ◌∷◌, length, get_or, count_by, ◌==◌, nat_eq, nat_lt, slice_index_or}
+use Rattle.std.specs.Prelude.{ℕ, ◌+◌, ◌-◌, ◌*◌, ◌<◌, Bool, false, not, ◌&&◌, ◌||◌, List, [], ◌∷◌, length, get_or, count_by, filter, map, ◌==◌, nat_eq, nat_lt, slice_index_or}
 use Rattle.listed.specs.declared.pair.Pair.{Pair}
 use Rattle.codes.specs.declared.side.Side.{Side}
 use Rattle.codes.specs.declared.side.Side.TheVariants.{ByCheck, ByBit}
+use Rattle.codes.specs.Sides.{other}
 use Rattle.codes.specs.Limits.{stride}
 
 -- what is read past the end of a list
@@ -15,8 +16,7 @@ major_of ByCheck p = p.check
 major_of ByBit p = p.bit
 
 abbrev pub minor_of : Side → Pair → ℕ
-minor_of ByCheck p = p.bit
-minor_of ByBit p = p.check
+minor_of s p = major_of (other s) p
 
 -- p stands before q in the order
 abbrev pub comes_before : Side → Pair → Pair → Bool
@@ -35,13 +35,13 @@ abbrev pub has_pair : List Pair → Pair → Bool
 has_pair [] p = false
 has_pair (x ∷ xs) p = same_pair x p || has_pair xs p
 
--- the pair at i of the first list is not in the second
-abbrev pub missing_at : List Pair → List Pair → ℕ → Bool
-missing_at xs ys i = not (has_pair ys (slice_index_or xs i blank))
-
 -- how many pairs have this check, or this bit
 abbrev pub count_in : Side → List Pair → ℕ → ℕ
 count_in s xs c = count_by (λ p. nat_eq (major_of s p) c) xs
+
+-- the other numbers of its pairs, in the list's order
+abbrev pub row_of : Side → List Pair → ℕ → List ℕ
+row_of s xs c = map (minor_of s) (filter (λ p. major_of s p == c) xs)
 
 -- both numbers in one, in the order's sense
 abbrev pub code_of : Side → Pair → ℕ
@@ -52,9 +52,3 @@ pub record Sorted (s : Side) (xs : List Pair) : Type 0 where
   pub small_check : (i : ℕ) → i < length xs → (get_or xs i blank).check < stride
   pub small_bit : (i : ℕ) → i < length xs → (get_or xs i blank).bit < stride
   pub rises : (i j : ℕ) → i < j → j < length xs → code_of s (slice_index_or xs i blank) < code_of s (slice_index_or xs j blank)
-
--- r parts what is below the key from the rest
-pub record Parts (s : Side) (xs : List Pair) (key r : ℕ) : Type 0 where
-  pub inside : r ≤ length xs
-  pub below : (j : ℕ) → j < r → code_of s (slice_index_or xs j blank) < key
-  pub above : (j : ℕ) → r ≤ j → j < length xs → key ≤ code_of s (slice_index_or xs j blank)

@@ -1,102 +1,99 @@
 // A code that is given as its pairs, listed twice.
 #![tactic(auto)]
 
-ghost use Rattle.std.specs.Prelude.{◌≡◌, ◌≤◌, map, IfOk, None, MatchResult};
-ghost use Rattle.std.specs.Option.{option_map};
+ghost use Rattle.std.specs.Prelude.{◌≡◌, None, Some, MatchResult};
 ghost use Rattle.faults.specs.Rows.{row_of, Refused};
 ghost use Rattle.codes.specs.Degrees.{degree_fault};
-ghost use Rattle.codes.specs.Limits.{stride};
-ghost use Rattle.listed.specs.Listing.{listed_pairs, mismatch_fault, list_fault, MadeListed, Starts};
+ghost use Rattle.codes.specs.declared.side.Side.TheVariants.{ByCheck, ByBit};
+ghost use Rattle.listed.specs.Listing.{listed_pairs, mismatch_fault, list_fault, MadeListed};
 ghost use Rattle.listed.specs.Means.{listed_of};
-ghost use Rattle.listed.specs.Order.{minor_of, Sorted};
 
-use order::{first_bad, first_missing, first_wrong, lower, minor};
+use order::{Rising, first_bad};
 pub use pair::Pair;
 
 mod order;
 mod pair;
 
-use codes::{Code, MOST_BIT_DEGREE, MOST_CHECK_DEGREE, Matrix, STRIDE, Side, Table, sizes_fit};
+use codes::{AsMatrix, MOST_BIT_DEGREE, MOST_CHECK_DEGREE, Matrix, Side, sizes_fit};
 use faults::Fault;
-use std::alloc::{AllocError, Global};
+use std::alloc::Global;
 
-// Where the pairs of each number begin.
-fn starts_of(heap: Global, side: Side, pairs: &[Pair], count: usize) -> Result<Vec<u32>, AllocError>
-    requires { (Sorted side pairs.now) × (count ≤ stride) }
-    ensures { IfOk result (λ v. Starts side pairs.now count v.items) }
+// Refuses with the fault at the place that was found, if one was.
+fn none_found<F: FnOnce(usize) -> Fault>(found: Option<usize>, fault: F) -> Result<(), Fault>
+    requires { F.IsAlwaysCallable fault }
+    ensures { MatchResult result (λ _. found ≡ None) (λ e. (i : _) × (found ≡ Some i) × F.post fault i e) }
 {
-    let mut starts = Vec::new(heap);
-    for c in 0..count + 1 {
-        starts.push(lower(side, pairs, c * STRIDE) as u32)?;
+    match found {
+        Some(i) => Err(fault(i)),
+        None => Ok(()),
     }
-    Ok(starts)
 }
 
-// The other numbers of the pairs.
-fn items_of(heap: Global, side: Side, pairs: &[Pair]) -> Result<Vec<u16>, AllocError>
-    requires { Sorted side pairs.now }
-    ensures { IfOk result (λ v. v.items ≡ map (minor_of side) pairs.now) }
-{
-    let mut items = Vec::new(heap);
-    for i in 0..pairs.len() {
-        items.push(minor(side, pairs[i]) as u16)?;
-    }
-    Ok(items)
-}
-
-// The pairs of each number, as a table of the other numbers.
-fn table_of(heap: Global, side: Side, pairs: &[Pair], count: usize) -> Result<Table, AllocError>
-    requires { (Sorted side pairs.now) × (count ≤ stride) }
-    ensures { IfOk result (λ t. Starts side pairs.now count t.starts.items × (t.items.items ≡ map (minor_of side) pairs.now)) }
-{
-    let starts = starts_of(heap, side, pairs, count)?;
-    let items = items_of(heap, side, pairs)?;
-    Ok(Table { starts, items })
-}
-
-// The first fault of the lists but for their degrees.
-fn mismatch(bits: usize, checks: usize, by_check: &[Pair], by_bit: &[Pair]) -> Option<Fault>
-    ensures { option_map row_of result ≡ mismatch_fault bits checks by_check.now by_bit.now }
+// Refuses two lists that do not match.
+fn check_lists(bits: usize, checks: usize, by_check: &[Pair], by_bit: &[Pair]) -> Result<(), Fault>
+    ensures { MatchResult result (λ _. mismatch_fault bits checks by_check.now by_bit.now ≡ None) (λ e. mismatch_fault bits checks by_check.now by_bit.now ≡ Some (row_of e)) }
 {
     if !sizes_fit(bits, checks) {
-        return Some(Fault::CodeSize);
+        return Err(Fault::CodeSize);
     }
-    if let Some(i) = first_bad(bits, checks, Side::ByCheck, by_check) {
-        return Some(Fault::BadEntry(i));
-    }
-    if let Some(i) = first_bad(bits, checks, Side::ByBit, by_bit) {
-        return Some(Fault::BadEntry(i));
-    }
+    none_found(
+        first_bad(bits, checks, Side::ByCheck, by_check),
+        Fault::BadEntry,
+    )?;
+    none_found(
+        first_bad(bits, checks, Side::ByBit, by_bit),
+        Fault::BadEntry,
+    )?;
     if by_check.len() != by_bit.len() {
-        return Some(Fault::ListsDiffer(0));
+        return Err(Fault::ListsDiffer(0));
     }
-    if let Some(i) = first_missing(by_check, by_bit) {
-        return Some(Fault::ListsDiffer(i));
-    }
-    None
+    let rising = Rising {
+        side: Side::ByBit,
+        pairs: by_bit,
+    };
+    none_found(rising.first_missing(by_check), Fault::ListsDiffer)
 }
 
-// The first check, or else the first bit, with too few pairs or too many.
-fn degree_fault(bits: usize, checks: usize, by_check: &[Pair], by_bit: &[Pair]) -> Option<Fault>
-    requires { mismatch_fault bits checks by_check.now by_bit.now ≡ None }
-    ensures { option_map row_of result ≡ degree_fault (listed_pairs bits checks by_check.now) }
-{
-    if let Some(c) = first_wrong(1, MOST_CHECK_DEGREE, Side::ByCheck, by_check, checks) {
-        return Some(Fault::DegreeRange(c));
-    }
-    if let Some(b) = first_wrong(0, MOST_BIT_DEGREE, Side::ByBit, by_bit, bits) {
-        return Some(Fault::DegreeRange(b));
-    }
-    None
+// Two lists that match, of a code of so many bits and checks.
+#[derive(Clone, Copy)]
+struct Matched<'a> {
+    bits: usize,
+    checks: usize,
+    by_check: &'a [Pair],
+    by_bit: &'a [Pair],
+    ghost matched: { mismatch_fault bits checks by_check.now by_bit.now ≡ None },
 }
 
-// The first fault of the lists.
-fn refusal(bits: usize, checks: usize, by_check: &[Pair], by_bit: &[Pair]) -> Option<Fault>
-    ensures { option_map row_of result ≡ list_fault bits checks by_check.now by_bit.now }
-{
-    match mismatch(bits, checks, by_check, by_bit) {
-        Some(fault) => Some(fault),
-        None => degree_fault(bits, checks, by_check, by_bit),
+impl<'a> Matched<'a> {
+    // The list by check then bit.
+    // Kept: beside columns: one function of the side would match on it to the same two.
+    fn rows(&self) -> Rising<'a>
+        ensures { (result.side ≡ ByCheck) × (result.pairs.now ≡ self.now.by_check.now) }
+    {
+        Rising {
+            side: Side::ByCheck,
+            pairs: self.by_check,
+        }
+    }
+
+    // The list by bit then check.
+    fn columns(&self) -> Rising<'a>
+        ensures { (result.side ≡ ByBit) × (result.pairs.now ≡ self.now.by_bit.now) }
+    {
+        Rising {
+            side: Side::ByBit,
+            pairs: self.by_bit,
+        }
+    }
+
+    // Refuses a check or a bit with too few pairs or too many.
+    fn check_degrees(&self) -> Result<(), Fault>
+        ensures { MatchResult result (λ _. degree_fault (listed_pairs self.now.bits self.now.checks self.now.by_check.now) ≡ None) (λ e. degree_fault (listed_pairs self.now.bits self.now.checks self.now.by_check.now) ≡ Some (row_of e)) }
+    {
+        let wrong_check = self.rows().first_wrong(1, MOST_CHECK_DEGREE, self.checks);
+        none_found(wrong_check, Fault::DegreeRange)?;
+        let wrong_bit = self.columns().first_wrong(0, MOST_BIT_DEGREE, self.bits);
+        none_found(wrong_bit, Fault::DegreeRange)
     }
 }
 
@@ -106,35 +103,11 @@ pub struct Listed {
     matrix: Matrix,
 }
 
-impl Code for Listed {
-    ghost answers = { listed_of };
+impl AsMatrix for Listed {
+    ghost matrix = { λ l. l.matrix };
 
-    fn bits(&self) -> usize {
-        self.matrix.bits()
-    }
-
-    fn checks(&self) -> usize {
-        self.matrix.checks()
-    }
-
-    fn widest(&self) -> usize {
-        self.matrix.widest()
-    }
-
-    fn check_degree(&self, check: usize) -> Option<usize> {
-        self.matrix.check_degree(check)
-    }
-
-    fn check_bit(&self, check: usize, place: usize) -> Option<usize> {
-        self.matrix.check_bit(check, place)
-    }
-
-    fn bit_degree(&self, bit: usize) -> Option<usize> {
-        self.matrix.bit_degree(bit)
-    }
-
-    fn bit_check(&self, bit: usize, place: usize) -> Option<usize> {
-        self.matrix.bit_check(bit, place)
+    fn as_matrix(&self) -> &Matrix {
+        &self.matrix
     }
 }
 
@@ -150,11 +123,16 @@ impl Listed {
     ) -> Result<Listed, Fault>
         ensures { MatchResult result (λ l. MadeListed bits checks by_check.now by_bit.now (listed_of l)) (λ e. Refused (list_fault bits checks by_check.now by_bit.now) (row_of e)) }
     {
-        if let Some(fault) = refusal(bits, checks, by_check, by_bit) {
-            return Err(fault);
-        }
-        let rows = table_of(heap, Side::ByCheck, by_check, checks)?;
-        let columns = table_of(heap, Side::ByBit, by_bit, bits)?;
+        check_lists(bits, checks, by_check, by_bit)?;
+        let lists = Matched {
+            bits,
+            checks,
+            by_check,
+            by_bit,
+        };
+        lists.check_degrees()?;
+        let rows = lists.rows().table(heap, checks)?;
+        let columns = lists.columns().table(heap, bits)?;
         Ok(Listed {
             matrix: Matrix::new(rows, columns),
         })

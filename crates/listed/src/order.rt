@@ -1,39 +1,13 @@
-// Lists of pairs in the two orders: what is wrong with one, and a search in one that rises.
-ghost use Rattle.std.specs.Prelude.{◌≡◌, ◌<◌, ◌≤◌, length};
-ghost use Rattle.codes.specs.declared.side.Side.TheVariants.{ByCheck, ByBit};
+// Lists of pairs in the two orders: what is wrong with one, and what one that rises holds.
+ghost use Rattle.std.specs.Prelude.{◌≡◌, ◌<◌, ◌==◌, not, map, filter, position, length, vec_items, IfOk};
+ghost use Rattle.std.specs.List.{range_with_len};
 ghost use Rattle.faults.specs.First.{first};
-ghost use Rattle.codes.specs.Limits.{stride};
 ghost use Rattle.listed.specs.Listing.{wrong_count};
-ghost use Rattle.listed.specs.Order.{major_of, minor_of, comes_before, bad_at, same_pair, has_pair, missing_at, count_in, code_of, Sorted, Parts};
+ghost use Rattle.listed.specs.Order.{major_of, bad_at, has_pair, row_of, Sorted};
 
 use crate::pair::Pair;
-use codes::{STRIDE, Side};
-
-pub(crate) fn major(side: Side, p: Pair) -> usize
-    ensures { result ≡ major_of side p }
-{
-    match side {
-        Side::ByCheck => p.check,
-        Side::ByBit => p.bit,
-    }
-}
-
-pub(crate) fn minor(side: Side, p: Pair) -> usize
-    ensures { result ≡ minor_of side p }
-{
-    match side {
-        Side::ByCheck => p.bit,
-        Side::ByBit => p.check,
-    }
-}
-
-fn before(side: Side, p: Pair, q: Pair) -> bool
-    ensures { result ≡ comes_before side p q }
-{
-    let a = major(side, p);
-    let b = major(side, q);
-    a < b || (a == b && minor(side, p) < minor(side, q))
-}
+use codes::Side;
+use std::alloc::{AllocError, Global};
 
 // Whether the pair at i is out of range, or not above the one before it.
 fn bad_at(bits: usize, checks: usize, side: Side, pairs: &[Pair], i: usize) -> bool
@@ -41,108 +15,84 @@ fn bad_at(bits: usize, checks: usize, side: Side, pairs: &[Pair], i: usize) -> b
     ensures { result ≡ bad_at bits checks side pairs.now i }
 {
     let p = pairs[i];
-    !((p.check < checks && p.bit < bits) && (i == 0 || before(side, pairs[i - 1], p)))
+    let in_range = p.check < checks && p.bit < bits;
+    let rises = i == 0 || pairs[i - 1].numbers(side) < p.numbers(side);
+    !(in_range && rises)
 }
 
 // The first such pair.
+// Kept: by index, since a pair is compared with the one before it, and the first has none.
 pub(crate) fn first_bad(bits: usize, checks: usize, side: Side, pairs: &[Pair]) -> Option<usize>
     ensures { result ≡ first (bad_at bits checks side pairs.now) (length pairs.now) }
 {
-    for i in 0..pairs.len() {
-        if bad_at(bits, checks, side, pairs, i) {
-            return Some(i);
-        }
+    (0..pairs.len()).find(|i| bad_at(bits, checks, side, pairs, *i))
+}
+
+// Pairs that rise in a side's order, with numbers within the limits.
+#[derive(Clone, Copy)]
+pub(crate) struct Rising<'a> {
+    pub side: Side,
+    pub pairs: &'a [Pair],
+    ghost rises: { Sorted side pairs.now },
+}
+
+impl<'a> Rising<'a> {
+    // Whether the pair is in the list.
+    pub(crate) fn has_pair(&self, p: Pair) -> bool
+        ensures { result ≡ has_pair self.now.pairs.now p }
+    {
+        let key = p.numbers(self.side);
+        self.pairs
+            .binary_search_by_key(&key, |q| q.numbers(self.side))
+            .is_ok()
     }
-    None
-}
 
-// Both numbers in one.
-fn code_of(side: Side, p: Pair) -> usize
-    requires { (p.check < stride) × (p.bit < stride) }
-    ensures { result ≡ code_of side p }
-{
-    major(side, p) * STRIDE + minor(side, p)
-}
-
-// The first index whose pair is not below the key.
-pub(crate) fn lower(side: Side, pairs: &[Pair], key: usize) -> usize
-    requires { Sorted side pairs.now }
-    ensures { Parts side pairs.now key result }
-{
-    let mut low = 0;
-    let mut high = pairs.len();
-    while low < high {
-        let middle = low + (high - low) / 2;
-        if code_of(side, pairs[middle]) < key {
-            low = middle + 1;
-        } else {
-            high = middle;
-        }
+    // The first of these pairs that is not in the list.
+    pub(crate) fn first_missing(&self, others: &[Pair]) -> Option<usize>
+        ensures { result ≡ position (λ p. not (has_pair self.now.pairs.now p)) others.now }
+    {
+        others.iter().position(|p| !self.has_pair(*p))
     }
-    low
-}
 
-fn same_pair(p: Pair, q: Pair) -> bool
-    ensures { result ≡ same_pair p q }
-{
-    p.check == q.check && p.bit == q.bit
-}
-
-// Whether a list that rises by bit has the pair.
-fn has_pair(pairs: &[Pair], p: Pair) -> bool
-    requires { (Sorted ByBit pairs.now) × ((p.check < stride) × (p.bit < stride)) }
-    ensures { result ≡ has_pair pairs.now p }
-{
-    let i = lower(Side::ByBit, pairs, code_of(Side::ByBit, p));
-    i < pairs.len() && same_pair(pairs[i], p)
-}
-
-// The first pair of the one list that is not in the other.
-pub(crate) fn first_missing(by_check: &[Pair], by_bit: &[Pair]) -> Option<usize>
-    requires { (Sorted ByCheck by_check.now) × (Sorted ByBit by_bit.now) }
-    ensures { result ≡ first (missing_at by_check.now by_bit.now) (length by_check.now) }
-{
-    for i in 0..by_check.len() {
-        if !has_pair(by_bit, by_check[i]) {
-            return Some(i);
-        }
+    // The pairs of a number.
+    fn pairs_of(&self, at: usize) -> &'a [Pair]
+        ensures { result.now ≡ filter (λ p. major_of self.now.side p == at) self.now.pairs.now }
+    {
+        let start = self.pairs.partition_point(|p| p.number(self.side) < at);
+        let end = self.pairs.partition_point(|p| p.number(self.side) <= at);
+        &self.pairs[start..end]
     }
-    None
-}
 
-// How many pairs a number has.
-fn count_of(side: Side, pairs: &[Pair], at: usize) -> usize
-    requires { (Sorted side pairs.now) × (at < stride) }
-    ensures { result ≡ count_in side pairs.now at }
-{
-    let start = lower(side, pairs, at * STRIDE);
-    let end = lower(side, pairs, (at + 1) * STRIDE);
-    end.saturating_sub(start)
-}
-
-fn wrong_count(least: usize, most: usize, side: Side, pairs: &[Pair], at: usize) -> bool
-    requires { (Sorted side pairs.now) × (at < stride) }
-    ensures { result ≡ wrong_count least most side pairs.now at }
-{
-    let n = count_of(side, pairs, at);
-    !(least <= n && n <= most)
-}
-
-// The first number below `count` with too few pairs or too many.
-pub(crate) fn first_wrong(
-    least: usize,
-    most: usize,
-    side: Side,
-    pairs: &[Pair],
-    count: usize,
-) -> Option<usize>
-    requires { (Sorted side pairs.now) × (count ≤ stride) }
-    ensures { result ≡ first (wrong_count least most side pairs.now) count }
-{
-    for c in 0..count {
-        if wrong_count(least, most, side, pairs, c) {
-            return Some(c);
-        }
+    // Whether a number has too few pairs or too many.
+    // Kept: two numbers here and in first_wrong: a range is not `Copy`, and the clause says both ends.
+    fn wrong_count(&self, least: usize, most: usize, at: usize) -> bool
+        ensures { result ≡ wrong_count least most self.now.side self.now.pairs.now at }
+    {
+        !(least..=most).contains(&self.pairs_of(at).len())
     }
-    None
+
+    // The first such number below `count`.
+    pub(crate) fn first_wrong(&self, least: usize, most: usize, count: usize) -> Option<usize>
+        ensures { result ≡ first (wrong_count least most self.now.side self.now.pairs.now) count }
+    {
+        (0..count).find(move |at| self.wrong_count(least, most, *at))
+    }
+
+    // The row of a number: the other numbers of its pairs.
+    fn row(&self, heap: Global, at: usize) -> Result<Vec<u16>, AllocError>
+        ensures { IfOk result (λ v. v.items ≡ row_of self.now.side self.now.pairs.now at) }
+    {
+        let other = self.side.other();
+        self.pairs_of(at)
+            .iter()
+            .map(|p| p.number(other) as u16)
+            .collect(heap)
+    }
+
+    // The rows of the numbers below `count`.
+    pub(crate) fn table(&self, heap: Global, count: usize) -> Result<Vec<Vec<u16>>, AllocError>
+        ensures { IfOk result (λ v. map vec_items v.items ≡ map (row_of self.now.side self.now.pairs.now) (range_with_len 0 count)) }
+    {
+        (0..count).map(|at| self.row(heap, at)).try_collect(heap)
+    }
 }

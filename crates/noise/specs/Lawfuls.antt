@@ -1,13 +1,13 @@
 -- The sources that come with the crate are lawful. Assumes nothing.
-use Rattle.std.specs.Prelude.{◌≡◌, ℕ, ◌+◌, ◌*◌, ◌%◌, ◌<◌, ◌≤◌, Bool, true, false, cond, ◌&&◌, T, ◌⊎◌, List, length, ℤ, pos, ◌≤ℤ◌, is_some, Some, None, Option, int_le, nat_lt, slice_index_or, refl}
-use Rattle.std.proofs.Common.{sym, subst, inl, inr, mod-lt, arith, le-ltb}
+use Rattle.std.specs.Prelude.{◌≡◌, ℕ, ◌+◌, ◌*◌, ◌%◌, ◌<◌, ◌≤◌, Bool, true, false, cond, ◌&&◌, T, ◌⊎◌, not, List, length, get_or, ℤ, pos, ◌≤ℤ◌, is_some, Some, None, Option, int_le, nat_lt, refl}
+use Rattle.std.proofs.Common.{sym, ◌∙◌, subst, inl, inr, mod-lt, arith, le-ltb}
 use Rattle.std.proofs.Math.Bool.{and-false}
 use Rattle.std.specs.Int.Signed.{le_z_yes}
 use Rattle.std.proofs.lemmas.List.{get_or_past}
 use Rattle.std.proofs.lemmas.Int.{ints}
 use Rattle.std.proofs.lemmas.Bool.{cases_lt, and_parts, not-false}
-use Rattle.faults.proofs.Firsts.{first_none}
-use Rattle.noise.specs.Sources.{most_rounds, most_bits, least_noise, most_noise, most_amplitude, Lawful, within, silence, entry_fits, tabled, bad_entry, first_bad, spread, generated}
+use Rattle.faults.proofs.Firsts.{first_none, position_first}
+use Rattle.noise.specs.Sources.{most_rounds, most_bits, least_noise, most_noise, most_amplitude, Lawful, within, silence, entry_fits, tabled, first_bad, spread, generated}
 
 pub silence_lawful : Lawful silence
 silence_lawful = record { low = λ r k. omega (arith, ints); high = λ r k. omega (arith, ints); beyond = λ r k h. refl }
@@ -48,10 +48,10 @@ none_found None e = refl
 none_found (Some i) e = let z : ◌≡◌ {A = ℕ} 0 1 = cc in absurd (omega arith)
 
 -- past the end there is 0
-entry_fits_lem : (entries : List ℤ) → is_some (first_bad entries) ≡ false → (i : ℕ) → entry_fits (slice_index_or entries i (pos 0)) ≡ true
+entry_fits_lem : (entries : List ℤ) → is_some (first_bad entries) ≡ false → (i : ℕ) → entry_fits (get_or entries i (pos 0)) ≡ true
 entry_fits_lem entries e i =
     elim (cases_lt i (length entries)) [
-      | inl h ↦ not-false _ (first_none (bad_entry entries) (length entries) (none_found (first_bad entries) e) i h)
+      | inl h ↦ not-false _ (first_none (λ k. not (entry_fits (get_or entries k (pos 0)))) (length entries) (sym (position_first _ (pos 0) entries) ∙ none_found (first_bad entries) e) i h)
       | inr h ↦ rw (get_or_past entries i (pos 0) h)
     ]
 
@@ -64,5 +64,5 @@ fits_high z e = le_z_yes (subst T (sym (and_parts (int_le least_noise z) (int_le
 pub tabled_lawful : (entries : List ℤ) → is_some (first_bad entries) ≡ false → Lawful (tabled entries)
 tabled_lawful entries e =
     within_lawful _
-    (λ r k. fits_low (slice_index_or entries ((r + k) % length entries) (pos 0)) (entry_fits_lem entries e _))
-    (λ r k. fits_high (slice_index_or entries ((r + k) % length entries) (pos 0)) (entry_fits_lem entries e _))
+    (λ r k. fits_low (get_or entries ((r + k) % length entries) (pos 0)) (entry_fits_lem entries e _))
+    (λ r k. fits_high (get_or entries ((r + k) % length entries) (pos 0)) (entry_fits_lem entries e _))

@@ -1,6 +1,6 @@
 -- What a noise source means, and the meanings of the sources that come with it. Assumes nothing.
-use Rattle.std.specs.Prelude.{◌≡◌, ℕ, ◌+◌, ◌*◌, ◌/◌, ◌%◌, ◌^◌, ◌≤◌, Bool, cond, not, ◌&&◌, ◌⊎◌, List, length, get_or, ℤ, pos, negsuc, ◌-ℤ◌, ◌≤ℤ◌, Some, None, Option, bit_xor, int_le, nat_le, nat_lt, slice_index_or}
-use Rattle.faults.specs.First.{first, fault_at}
+use Rattle.std.specs.Prelude.{◌≡◌, ℕ, ◌+◌, ◌*◌, ◌/◌, ◌%◌, ◌^◌, ◌≤◌, Bool, cond, not, ◌&&◌, ◌⊎◌, List, length, get_or, ℤ, pos, negsuc, ◌-ℤ◌, ◌≤ℤ◌, Some, None, Option, bit_xor, int_le, nat_le, nat_lt, position}
+use Rattle.faults.specs.First.{fault_at}
 use Rattle.faults.specs.Rows.{Row, N}
 
 -- ---- the limits
@@ -28,9 +28,13 @@ pub record Lawful (noise : ℕ → ℕ → ℤ) : Type 0 where
   pub high : (r k : ℕ) → noise r k ≤ℤ most_noise
   pub beyond : (r k : ℕ) → (most_rounds ≤ r) ⊎ (most_bits ≤ k) → noise r k ≡ pos 0
 
--- a number for each round and bit, and 0 beyond
+-- the rounds and bits for which a source has noise
+abbrev pub is_covered : ℕ → ℕ → Bool
+is_covered r k = nat_lt r most_rounds && nat_lt k most_bits
+
+-- a number for each of these rounds and bits, and 0 beyond
 abbrev pub within : (ℕ → ℕ → ℤ) → ℕ → ℕ → ℤ
-within f r k = cond (nat_lt r most_rounds && nat_lt k most_bits) (f r k) (pos 0)
+within f r k = cond (is_covered r k) (f r k) (pos 0)
 
 -- ---- silence
 abbrev pub silence : ℕ → ℕ → ℤ
@@ -43,11 +47,9 @@ entry_fits z = int_le least_noise z && int_le z most_noise
 abbrev pub tabled : List ℤ → ℕ → ℕ → ℤ
 tabled entries = within (λ r k. get_or entries ((r + k) % length entries) (pos 0))
 
-abbrev pub bad_entry : List ℤ → ℕ → Bool
-bad_entry entries i = not (entry_fits (slice_index_or entries i (pos 0)))
-
+-- the place of the first entry that does not fit
 abbrev pub first_bad : List ℤ → Option ℕ
-first_bad entries = first (bad_entry entries) (length entries)
+first_bad = position (λ z. not (entry_fits z))
 
 -- why a table is refused
 abbrev pub table_fault : List ℤ → Option Row

@@ -4,15 +4,16 @@ ghost use Rattle.faults.specs.Rows.{row_of};
 ghost use Rattle.noise.specs.Lawfuls.{generated_lawful};
 ghost use Rattle.noise.specs.Sources.{most_amplitude, mixed, spread, generated, amplitude_fault};
 
-use crate::limits::{MOST_AMPLITUDE, MOST_BITS, MOST_ROUNDS, SPAN};
+use crate::limits::{SPAN, is_covered};
 use crate::source::Noise;
 use faults::Fault;
 
 // A seed, and an amplitude: the noise is at most so far from 0.
-#[derive(Clone, Copy)]
+#[derive(Clone, Copy, Debug, PartialEq, Eq)]
 pub struct Generator {
     seed: u32,
     amplitude: u8,
+    // Kept: `lawful` speaks of every amplitude that a proof can name, and this bounds those.
     ghost few: { amplitude ≤ most_amplitude },
 }
 
@@ -38,7 +39,7 @@ impl Noise for Generator {
     ghost lawful = { λ g. generated_lawful g.seed g.amplitude g.few };
 
     fn at(&self, round: usize, bit: usize) -> i16 {
-        if round >= MOST_ROUNDS || bit >= MOST_BITS {
+        if !is_covered(round, bit) {
             return 0;
         }
         let u = self.seed.wrapping_add((round * SPAN + bit) as u32);
@@ -51,10 +52,7 @@ impl Generator {
     pub fn new(seed: u32, amplitude: u32) -> Result<Generator, Fault>
         ensures { MatchResult result (λ g. (amplitude_fault amplitude ≡ None) × (g.seed ≡ seed) × (g.amplitude ≡ amplitude)) (λ e. amplitude_fault amplitude ≡ Some (row_of e)) }
     {
-        if amplitude > MOST_AMPLITUDE {
-            return Err(Fault::AmplitudeRange);
-        }
-        let amplitude = amplitude as u8;
+        let amplitude = u8::try_from(amplitude).map_err(|_| Fault::AmplitudeRange)?;
         Ok(Generator { seed, amplitude })
     }
 }

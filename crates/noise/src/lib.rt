@@ -9,7 +9,7 @@ mod table;
 
 pub use generator::Generator;
 pub use limits::{
-    LEAST_NOISE, MOST_AMPLITUDE, MOST_BITS, MOST_ENTRIES, MOST_NOISE, MOST_ROUNDS, SPAN,
+    LEAST_NOISE, MOST_AMPLITUDE, MOST_BITS, MOST_ENTRIES, MOST_NOISE, MOST_ROUNDS, SPAN, is_covered,
 };
 pub use silent::Silent;
 pub use source::Noise;

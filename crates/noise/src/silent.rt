@@ -4,7 +4,7 @@ ghost use Rattle.noise.specs.Sources.{silence};
 
 use crate::source::Noise;
 
-#[derive(Clone, Copy)]
+#[derive(Clone, Copy, Debug, Default, PartialEq, Eq)]
 pub struct Silent;
 
 impl Noise for Silent {

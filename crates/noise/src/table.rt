@@ -1,39 +1,34 @@
 // Noise that is read from a table, round and round.
-ghost use Rattle.std.specs.Prelude.{◌≡◌, ◌<◌, ◌≤◌, false, length, is_some, None, MatchResult};
+ghost use Rattle.std.specs.Prelude.{◌≡◌, ◌≤◌, false, length, is_some, None, MatchResult};
 ghost use Rattle.faults.specs.Rows.{row_of, Refused};
 ghost use Rattle.noise.specs.Lawfuls.{tabled_lawful};
-ghost use Rattle.noise.specs.Sources.{tabled, bad_entry, first_bad, table_fault};
+ghost use Rattle.noise.specs.Sources.{entry_fits, tabled, first_bad, table_fault};
 
-use crate::limits::{LEAST_NOISE, MOST_BITS, MOST_ENTRIES, MOST_NOISE, MOST_ROUNDS};
+use crate::limits::{LEAST_NOISE, MOST_ENTRIES, MOST_NOISE, is_covered};
 use crate::source::Noise;
 use faults::Fault;
 use std::alloc::Global;
 
 // The entries, each within the limits.
-#[derive(Drop)]
+#[derive(Debug, Drop, PartialEq, Eq)]
 pub struct Table {
     entries: Vec<i16>,
     ghost some: { 1 ≤ length entries.items },
     ghost good: { is_some (first_bad entries.items) ≡ false },
 }
 
-fn bad_entry(entries: &[i16], i: usize) -> bool
-    requires { i < length entries.now }
-    ensures { result ≡ bad_entry entries.now i }
+// Whether an entry is within the limits.
+fn entry_fits(entry: i16) -> bool
+    ensures { result ≡ entry_fits entry }
 {
-    !(LEAST_NOISE <= entries[i] && entries[i] <= MOST_NOISE)
+    (LEAST_NOISE..=MOST_NOISE).contains(&entry)
 }
 
-// The first entry out of range.
+// The index of the first entry out of range.
 fn first_bad(entries: &[i16]) -> Option<usize>
     ensures { result ≡ first_bad entries.now }
 {
-    for i in 0..entries.len() {
-        if bad_entry(entries, i) {
-            return Some(i);
-        }
-    }
-    None
+    entries.iter().position(|entry| !entry_fits(*entry))
 }
 
 // The entry that a round and a bit lead to.
@@ -41,7 +36,7 @@ fn entry_at(entries: &[i16], round: usize, bit: usize) -> i16
     requires { 1 ≤ length entries.now }
     ensures { result ≡ tabled entries.now round bit }
 {
-    if round >= MOST_ROUNDS || bit >= MOST_BITS {
+    if !is_covered(round, bit) {
         return 0;
     }
     entries[(round + bit) % entries.len()]
@@ -64,7 +59,7 @@ impl Table {
         ensures { MatchResult result (λ t. (table_fault entries.now ≡ None) × (t.entries.items ≡ entries.now)) (λ e. Refused (table_fault entries.now) (row_of e)) }
     {
         let length = entries.len();
-        if length < 1 || length > MOST_ENTRIES {
+        if !(1..=MOST_ENTRIES).contains(&length) {
             return Err(Fault::TableLength(length));
         }
         if let Some(i) = first_bad(entries) {

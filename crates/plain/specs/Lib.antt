@@ -5,3 +5,4 @@ pub mod Bounds
 pub mod Machine
 pub mod Laws
 pub mod Symmetry
+pub mod Words

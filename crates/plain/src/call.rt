@@ -1,8 +1,12 @@
 // What can be asked of an open frame, and what it answers.
+ghost use Rattle.std.specs.Prelude.{Some};
+ghost use Rattle.plain.specs.Words.{verdict_text};
+
 use faults::Fault;
+use std::fmt;
 
 // A call on an open frame.
-#[derive(Clone, Copy)]
+#[derive(Clone, Copy, Debug, PartialEq, Eq)]
 pub enum Call {
     // One round.
     Round,
@@ -19,7 +23,7 @@ pub enum Call {
 }
 
 // How decoding ends.
-#[derive(Clone, Copy)]
+#[derive(Clone, Copy, Debug, PartialEq, Eq)]
 pub enum Verdict {
     // Every check is met.
     Decoded,
@@ -27,8 +31,19 @@ pub enum Verdict {
     Spent,
 }
 
+impl fmt::Display for Verdict {
+    ghost output = { λ v. Some (verdict_text v) };
+
+    fn fmt<W: fmt::Write>(&self, f: &mut fmt::Formatter<W>) -> fmt::Result {
+        match self {
+            Verdict::Decoded => write!(f, "decoded"),
+            Verdict::Spent => write!(f, "spent"),
+        }
+    }
+}
+
 // An answer, with packed digits held as a `B`.
-#[derive(Drop)]
+#[derive(Debug, PartialEq, Eq, Drop)]
 pub enum Answer<B> {
     // A round that changed nothing.
     Stopped(Verdict),

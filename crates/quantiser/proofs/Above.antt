@@ -1,7 +1,9 @@
 -- Floats above zero, the infinity among them: their order, and that every boundary is one.
-use Rattle.std.proofs.Common.{◌≡◌, ◌*◌, Bool, true, false, ◌&&◌, ◌||◌, T, ◌⊎◌, sym, refl, subst, inl, inr, arith, ltb→lt, lt→ltb}
+use Rattle.std.proofs.Common.{◌≡◌, ◌*◌, Bool, true, false, cond, ◌&&◌, ◌||◌, T, Some, None, ◌⊎◌, sym, refl, subst, inl, inr, arith, ltb→lt, lt→ltb}
 use lib.Ieee.{Float, nan, inf, fin, up, down, lt, eq, le, of_bits}
 use lib.Ieee.Positive.{positive, above, above_of_le, first_pos, cross→le, le_trans_positive}
+use Rattle.std.specs.declared.cmp.Ordering.TheVariants.{Less, Equal, Greater}
+use Rattle.std.specs.Ordering.{is_some_and, is_le, partial_le, float_partial_cmp}
 use Rattle.std.proofs.lemmas.Bool.{and_parts}
 use Rattle.quantiser.specs.declared.shape.Boundaries.{Boundaries}
 use Rattle.quantiser.specs.Limits.{plus_zero, most_boundary}
@@ -14,6 +16,17 @@ passes b e = subst T (sym e) tt
 pub true_of : (b : Bool) → T b → b ≡ true
 true_of true p = refl
 true_of false p = absurd p
+
+-- ---- the library's order of floats, as the comparison that it is
+compared : (a e b : Bool) → is_some_and is_le (cond a (Some Less) (cond e (Some Equal) (cond b (Some Greater) None))) ≡ (a || e)
+compared true e b = refl
+compared false true b = refl
+compared false false true = refl
+compared false false false = refl
+
+pub le_compared : (x y : Float) → partial_le float_partial_cmp x y ≡ le x y
+unfolding le
+le_compared x y = compared (lt x y) (eq x y) (lt y x)
 
 -- ---- what is above zero is finite, or the infinity
 finite_or_not : (x : Float) → T (above x) → T (positive x) ⊎ (x ≡ inf false)

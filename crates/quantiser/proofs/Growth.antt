@@ -38,6 +38,7 @@ module _ (x y : Float) (h : T (le x y)) where
   reach_grows b a = one_grows (le b x) (le b y) (λ p. above_trans b x y a p h)
 
   steps_grow : (s : Float) → is_step s ≡ true → (k : ℕ) → k ≤ uniform_boundaries → steps_reached s x k ≤ steps_reached s y k
+  unfolding steps_reached
   steps_grow s ok zero l = omega arith
   steps_grow s ok (suc k) l = omega (arith, steps_grow s ok k (omega arith), reach_grows (boundary s (suc k)) (boundary_above s (suc k) ok (omega arith) l))
 

@@ -1,5 +1,6 @@
 pub mod Counts
 pub mod Growth
+pub mod Nans
 pub mod Above
 pub mod Signs
 pub mod Steps

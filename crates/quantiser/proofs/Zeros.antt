@@ -44,6 +44,7 @@ module _ (x : Float) (z : eq x plus_zero ≡ true) where
       ]
 
   none : (s : Float) → is_step s ≡ true → (k : ℕ) → k ≤ uniform_boundaries → steps_reached s (size_of x) k ≡ 0
+  unfolding steps_reached
   none s h zero b = refl
   none s h (suc k) b =
       let i : steps_reached s (size_of x) k ≡ 0 = none s h k (omega arith) in

@@ -20,7 +20,7 @@ abbrev pub boundary : Float → ℕ → Float
 boundary s k = mul binary32 (of_int binary32 (pos k)) s
 
 -- of the boundaries 1 to n of a step
-abbrev pub steps_reached : Float → Float → ℕ → ℕ
+unfoldable pub steps_reached : Float → Float → ℕ → ℕ
 steps_reached s x zero = 0
 steps_reached s x (suc k) = steps_reached s x k + one (le (boundary s (suc k)) x)
 

@@ -5,12 +5,6 @@ ghost use Rattle.quantiser.specs.Limits.{most_level};
 
 use crate::limits::MOST_LEVEL;
 
-fn largest() -> i8
-    ensures { result ≡ pos most_level }
-{
-    MOST_LEVEL
-}
-
 // The largest level, and what holds of all of them.
 pub fn most_level() -> i8
     ensures value { result ≡ pos most_level }
@@ -21,5 +15,5 @@ pub fn most_level() -> i8
     ensures limits { LimitsAre }
     ensures rise { NeverFall }
 {
-    largest()
+    MOST_LEVEL
 }

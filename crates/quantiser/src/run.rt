@@ -1,43 +1,40 @@
 // Many samples to as many levels.
-ghost use Rattle.std.specs.Prelude.{◌≡◌, map, length, Some, None, MatchResult};
-ghost use Rattle.std.specs.Option.{option_map};
+ghost use Rattle.std.specs.Prelude.{◌≡◌, position, is_nan, map, length, Some, None, MatchResult};
 ghost use Rattle.faults.specs.Rows.{row_of};
 ghost use Rattle.quantiser.specs.Levels.{level_of};
-ghost use Rattle.quantiser.specs.Runs.{first_nan, quantise_fault};
+ghost use Rattle.quantiser.specs.Runs.{quantise_fault};
 
 use crate::Quantiser;
 use faults::Fault;
 
 // The least index of a sample that is not a number.
 fn first_nan(samples: &[f32]) -> Option<usize>
-    ensures { result ≡ first_nan samples.now }
+    ensures { result ≡ position is_nan samples.now }
 {
-    for i in 0..samples.len() {
-        if samples[i].is_nan() {
-            return Some(i);
-        }
-    }
-    None
+    samples.iter().position(|x| x.is_nan())
 }
 
-// The first fault of the samples, for so many levels.
-fn refusal(samples: &[f32], count: usize) -> Option<Fault>
-    ensures { option_map row_of result ≡ quantise_fault samples.now count }
+// Whether there are as many samples as levels, and each is a number, or the first fault.
+#[tactic(auto, using(crate::proofs::Nans::nan_position))]
+fn checked(samples: &[f32], count: usize) -> Result<(), Fault>
+    ensures { MatchResult result (λ _. quantise_fault samples.now count ≡ None) (λ e. quantise_fault samples.now count ≡ Some (row_of e)) }
 {
     if samples.len() != count {
-        return Some(Fault::SampleCount(samples.len()));
+        return Err(Fault::SampleCount(samples.len()));
     }
-    if let Some(i) = first_nan(samples) {
-        return Some(Fault::NotANumber(i));
+    match first_nan(samples) {
+        Some(i) => Err(Fault::NotANumber(i)),
+        None => Ok(()),
     }
-    None
 }
 
 // Writes the level of each sample.
+#[tactic(auto, using(std::proofs::lemmas::List::map_more, std::proofs::lemmas::List::take_more_set))]
 fn fill(quantiser: &Quantiser, samples: &[f32], levels: &mut [i8])
     requires { length samples.now ≡ length levels.old }
     ensures { levels.new ≡ map (level_of quantiser.now.shape) samples.now }
 {
+    // Kept: by index: zipped with `iter_mut` was tried, and its proof stays open; `enumerate` on the levels would index the samples.
     for (i, x) in samples.iter().enumerate() {
         levels[i] = quantiser.level(*x);
     }
@@ -47,9 +44,7 @@ fn fill(quantiser: &Quantiser, samples: &[f32], levels: &mut [i8])
 pub fn quantise(quantiser: &Quantiser, samples: &[f32], levels: &mut [i8]) -> Result<(), Fault>
     ensures { MatchResult result (λ _. (quantise_fault samples.now (length levels.old) ≡ None) × (levels.new ≡ map (level_of quantiser.now.shape) samples.now)) (λ e. (quantise_fault samples.now (length levels.old) ≡ Some (row_of e)) × (levels.new ≡ levels.old)) }
 {
-    if let Some(fault) = refusal(samples, levels.len()) {
-        return Err(fault);
-    }
+    checked(samples, levels.len())?;
     fill(quantiser, samples, levels);
     Ok(())
 }

@@ -5,7 +5,7 @@ ghost use Rattle.quantiser.specs.Shapes.{is_step, is_rising, is_allowed};
 use crate::limits::{LEAST_STEP, MOST_BOUNDARY, MOST_STEP};
 
 // Three boundaries, the least first.
-#[derive(Clone, Copy)]
+#[derive(Clone, Copy, Debug, PartialEq)]
 pub struct Boundaries {
     pub a: f32,
     pub b: f32,
@@ -13,32 +13,37 @@ pub struct Boundaries {
 }
 
 // Boundaries at each multiple of a step, or three of them.
-#[derive(Clone, Copy)]
+#[derive(Clone, Copy, Debug, PartialEq)]
 pub enum Shape {
     Uniform(f32),
     Bounded(Boundaries),
 }
 
 // Whether it is a step that a quantiser may have. A NaN passes no comparison.
+#[tactic(auto, using(crate::proofs::Above::le_compared))]
 fn is_step(step: f32) -> bool
     ensures { result ≡ is_step step }
 {
-    LEAST_STEP <= step && step <= MOST_STEP
+    (LEAST_STEP..=MOST_STEP).contains(&step)
 }
 
-// Whether the three are above zero, rise, and end within the limit.
-fn is_rising(bounds: &Boundaries) -> bool
-    ensures { result ≡ is_rising bounds.now }
-{
-    0.0 < bounds.a && bounds.a < bounds.b && bounds.b < bounds.c && bounds.c <= MOST_BOUNDARY
+impl Boundaries {
+    // Whether the three are above zero, rise, and end within the limit.
+    fn is_rising(&self) -> bool
+        ensures { result ≡ is_rising self.now }
+    {
+        0.0 < self.a && self.a < self.b && self.b < self.c && self.c <= MOST_BOUNDARY
+    }
 }
 
-// Whether a quantiser may have the shape.
-pub(crate) fn is_allowed(shape: &Shape) -> bool
-    ensures { result ≡ is_allowed shape.now }
-{
-    match shape {
-        Shape::Uniform(step) => is_step(*step),
-        Shape::Bounded(bounds) => is_rising(bounds),
+impl Shape {
+    // Whether a quantiser may have the shape.
+    pub(crate) fn is_allowed(&self) -> bool
+        ensures { result ≡ is_allowed self.now }
+    {
+        match self {
+            Shape::Uniform(step) => is_step(*step),
+            Shape::Bounded(bounds) => bounds.is_rising(),
+        }
     }
 }

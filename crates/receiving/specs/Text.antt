@@ -6,15 +6,10 @@ use Rattle.lines.specs.Digits.{digit}
 use Rattle.lines.specs.Lines.{feed}
 use Rattle.plain.specs.declared.call.Answer.{Answer}
 use Rattle.plain.specs.declared.call.Answer.TheVariants.{Stopped, Flipped, Ended, Toggled, Weighed, Unmet, Packed, Refused}
-use Rattle.plain.specs.declared.call.Verdict.{Verdict}
-use Rattle.plain.specs.declared.call.Verdict.TheVariants.{Decoded, Spent}
+use Rattle.plain.specs.Words.{verdict_text}
 
 abbrev pub space : ℕ
 space = 32
-
-abbrev pub verdict_text : Verdict → List ℕ
-verdict_text Decoded = codes "decoded"
-verdict_text Spent = codes "spent"
 
 -- two hexadecimal digits for each byte
 abbrev pub hex_text : List ℕ → List ℕ

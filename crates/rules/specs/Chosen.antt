@@ -13,7 +13,7 @@ still m = record { first = Many; says = λ s score lowest. m.says tt score lowes
 abbrev pub meaning_of : Chosen → RuleMeaning Mode
 meaning_of (OfSingle r) = still single
 meaning_of (OfMulti r) = still (multi r.threshold)
-meaning_of (OfSwitch r) = switch r.threshold
+meaning_of (OfSwitch r) = switch r.multi.threshold
 
 abbrev pub state_of : Chosen → Mode
 state_of (OfSingle r) = Many

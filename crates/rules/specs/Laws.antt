@@ -8,7 +8,7 @@ use Rattle.rules.specs.Meaning.{Alike}
 abbrev pub AlikeToHeld : Chosen → Type 0
 AlikeToHeld (OfSingle r) = Alike (meaning_of (OfSingle r)) single
 AlikeToHeld (OfMulti r) = Alike (meaning_of (OfMulti r)) (multi r.threshold)
-AlikeToHeld (OfSwitch r) = Alike (meaning_of (OfSwitch r)) (switch r.threshold)
+AlikeToHeld (OfSwitch r) = Alike (meaning_of (OfSwitch r)) (switch r.multi.threshold)
 
 abbrev pub ChosenAlike : Type 0
 ChosenAlike = (c : Chosen) → AlikeToHeld c

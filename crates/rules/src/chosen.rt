@@ -5,13 +5,14 @@ ghost use Rattle.rules.specs.declared.mode.Mode.{Mode as ModeState};
 use crate::kinds::{Multi, Single, Switch};
 use crate::rule::Rule;
 
-#[derive(Clone, Copy)]
+#[derive(Clone, Copy, Debug, PartialEq, Eq)]
 pub enum Chosen {
     Single(Single),
     Multi(Multi),
     Switch(Switch),
 }
 
+// Kept: three matches that forward to the held rule: a `dyn Rule` from one method was tried; it hides state and meaning, and `rt ci` refuses it.
 impl Rule for Chosen {
     ghost State = { ModeState };
 

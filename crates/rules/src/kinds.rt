@@ -14,19 +14,8 @@ pub const LEAST_THRESHOLD: i32 = -128;
 // The largest.
 pub const MOST_THRESHOLD: i32 = -1;
 
-// A threshold that fits, or R1.
-fn threshold_of(threshold: i32) -> Result<i8, Fault>
-    ensures { MatchResult result (λ t. (threshold_fault threshold ≡ None) × (t ≡ threshold)) (λ e. threshold_fault threshold ≡ Some (row_of e)) }
-{
-    if LEAST_THRESHOLD <= threshold && threshold <= MOST_THRESHOLD {
-        Ok(threshold as i8)
-    } else {
-        Err(Fault::ThresholdRange)
-    }
-}
-
 // Flips the lowest alone.
-#[derive(Clone, Copy)]
+#[derive(Clone, Copy, Debug, Default, PartialEq, Eq)]
 pub struct Single;
 
 impl Rule for Single {
@@ -46,7 +35,7 @@ impl Rule for Single {
 }
 
 // Flips every bit with a score below the threshold.
-#[derive(Clone, Copy)]
+#[derive(Clone, Copy, Debug, PartialEq, Eq)]
 pub struct Multi {
     threshold: i8,
 }
@@ -72,15 +61,18 @@ impl Multi {
     pub fn new(threshold: i32) -> Result<Multi, Fault>
         ensures { MatchResult result (λ m. (threshold_fault threshold ≡ None) × (m.threshold ≡ threshold)) (λ e. threshold_fault threshold ≡ Some (row_of e)) }
     {
-        let threshold = threshold_of(threshold)?;
-        Ok(Multi { threshold })
+        i8::try_from(threshold)
+            .ok()
+            .filter(|_| (LEAST_THRESHOLD..=MOST_THRESHOLD).contains(&threshold))
+            .map(|threshold| Multi { threshold })
+            .ok_or(Fault::ThresholdRange)
     }
 }
 
 // Flips as multi does until a round lowers the objective, and from then on as single does.
-#[derive(Clone, Copy)]
+#[derive(Clone, Copy, Debug, PartialEq, Eq)]
 pub struct Switch {
-    threshold: i8,
+    multi: Multi,
     mode: Mode,
 }
 
@@ -89,7 +81,7 @@ impl Rule for Switch {
 
     ghost state = { λ s. s.mode };
 
-    ghost meaning = { λ s. switch s.threshold };
+    ghost meaning = { λ s. switch s.multi.threshold };
 
     fn restart(&mut self) {
         self.mode = Mode::Many;
@@ -97,8 +89,8 @@ impl Rule for Switch {
 
     fn flips(&self, score: i16, lowest: bool) -> bool {
         match self.mode {
-            Mode::Many => score < i16::from(self.threshold),
-            Mode::One => lowest,
+            Mode::Many => self.multi.flips(score, lowest),
+            Mode::One => Single.flips(score, lowest),
         }
     }
 
@@ -113,10 +105,10 @@ impl Rule for Switch {
 impl Switch {
     // The switch rule in its first state, or R1 for a threshold that is not from −128 to −1.
     pub fn new(threshold: i32) -> Result<Switch, Fault>
-        ensures { MatchResult result (λ s. (threshold_fault threshold ≡ None) × (s.threshold ≡ threshold) × (s.mode ≡ Many)) (λ e. threshold_fault threshold ≡ Some (row_of e)) }
+        ensures { MatchResult result (λ s. (threshold_fault threshold ≡ None) × (s.multi.threshold ≡ threshold) × (s.mode ≡ Many)) (λ e. threshold_fault threshold ≡ Some (row_of e)) }
     {
-        let threshold = threshold_of(threshold)?;
+        let multi = Multi::new(threshold)?;
         let mode = Mode::Many;
-        Ok(Switch { threshold, mode })
+        Ok(Switch { multi, mode })
     }
 }

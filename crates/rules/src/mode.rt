@@ -1,5 +1,5 @@
 // What the switch rule does now: flip many bits at once, or one.
-#[derive(Clone, Copy)]
+#[derive(Clone, Copy, Debug, PartialEq, Eq)]
 pub enum Mode {
     Many,
     One,

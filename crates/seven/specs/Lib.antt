@@ -1,1 +1,2 @@
 pub mod Seven
+pub mod Means

@@ -7,9 +7,16 @@ ghost use Rattle.codes.specs.Lawful.{Lawful};
 ghost use Rattle.listed.specs.Means.{listed_of};
 ghost use Rattle.seven.specs.Seven.{seven_by_check, seven_by_bit, seven_pairs};
 
+use codes::{AsMatrix, Matrix};
 use faults::Fault;
 use listed::{Listed, Pair};
 use std::alloc::Global;
+
+// How many bits the code has.
+pub const BITS: usize = 7;
+
+// How many checks the code has.
+pub const CHECKS: usize = 3;
 
 // The pairs of the code, by check then bit.
 fn by_check() -> [Pair; 12]
@@ -51,9 +58,51 @@ fn by_bit() -> [Pair; 12]
     ]
 }
 
-// The code, unless there is no memory for it.
-pub fn seven(heap: Global) -> Result<Listed, Fault>
+// The pairs as a listed code, unless there is no memory for it.
+fn listed(heap: Global) -> Result<Listed, Fault>
     ensures { MatchResult result (λ l. Lawful (listed_of l) seven_pairs) (λ e. e ≡ NoMemory) }
 {
-    Listed::new(heap, 7, 3, &by_check(), &by_bit())
+    Listed::new(heap, BITS, CHECKS, &by_check(), &by_bit())
+}
+
+// The code, which answers as its checks are.
+#[derive(Drop)]
+pub struct Seven {
+    listed: Listed,
+    ghost lawful: { ∥ Lawful (listed_of listed) seven_pairs ∥₁ },
+}
+
+impl AsMatrix for Seven {
+    ghost matrix = { λ s. ⟦<Listed as AsMatrix>⟧.matrix s.listed };
+
+    fn as_matrix(&self) -> &Matrix {
+        self.listed.as_matrix()
+    }
+}
+
+impl Seven {
+    ghost use Rattle.seven.specs.Means.{seven_of};
+
+    // The code, unless there is no memory for it.
+    pub fn new(heap: Global) -> Result<Seven, Fault>
+        ensures { MatchResult result (λ s. Lawful (seven_of s) seven_pairs) (λ e. e ≡ NoMemory) }
+    {
+        let listed = listed(heap)?;
+        Ok(Seven { listed })
+    }
+}
+
+#[cfg(test)]
+mod tests {
+    use super::*;
+    use codes::Code;
+    use std::test::Fail;
+
+    #[test]
+    fn is_made(rt: HostRuntime) -> Result<(), Fail> {
+        let code = Seven::new(rt.alloc())?;
+        assert_eq!(rt; code.bits(), 7);
+        assert_eq!(rt; code.checks(), 3);
+        Ok(())
+    }
 }

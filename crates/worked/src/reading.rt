@@ -2,6 +2,7 @@
 use lines::{Line, Part, Text};
 use rules::Chosen;
 
+// Kept: the kind alone; a rule that printed itself would give its threshold too.
 fn name_of(rule: Chosen) -> &'static str {
     match rule {
         Chosen::Single(_) => "single",

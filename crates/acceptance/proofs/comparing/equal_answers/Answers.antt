@@ -1,22 +1,27 @@
-use Rattle.std.proofs.Common.{◌≡◌, ℕ, List, map, vec_items, sym, ◌∙◌, subst, arith}
+use Rattle.std.proofs.Common.{◌≡◌, ℕ, ◌+◌, List, length, map, vec_items, sym, subst, arith, rules}
 use Rattle.std.proofs.lemmas.Bool.Decides.{not_from_Decides}
+use Rattle.std.proofs.lemmas.List.{length_push}
+use Rattle.std.proofs.lemmas.Slice.Zip.{zip_turn}
 use Rattle.plain.specs.declared.call.Answer.{Answer}
 use Rattle.plain.specs.declared.call.Answer.TheVariants.{Unmet}
 use Rattle.decoder.specs.Replays.{unpacked}
 use Rattle.acceptance.specs.Comparing.{Tallied, EqualAt}
-use Rattle.acceptance.proofs.Sides.{both_decide, both_lengths}
+use Rattle.acceptance.proofs.Sides.{both_decide}
 use Rattle.acceptance.proofs.Tallies.{tallied_one, tallied_none}
 use Rattle.acceptance.proofs.comparing.equal_answers.Goals as goal
-use Rattle.acceptance.proofs.comparing.equal_answers.Goals.{then-same_answer, else-same_answer}
 
-pub loop-k-preserved : goal.loop-k-preserved
-loop-k-preserved c =
+pub loop-a-preserved-then-same_answer : goal.loop-a-preserved-then-same_answer
+loop-a-preserved-then-same_answer c =
     let P = EqualAt (map (unpacked vec_items) c.args.first.now) (map (unpacked vec_items) c.args.second.now) in
-    let at = both_decide (unpacked vec_items) (λ (a b : Answer (List ℕ)). a ≡ b) c.args.first.now c.args.second.now c.loop-k.k _ _ (Unmet 0) _ (omega arith) (omega arith) c.index-first-k.is c.index-second-k.is c.same_answer.ensures in
-    elim c.if-same_answer.branch [ then-same_answer w ↦ (omega (arith, w.count-is), rw w.count-is (tallied_one P _ _ c.loop-k.invariant.1 (at.0 w.if-same_answer.true))) | else-same_answer w ↦ (omega (arith, w.count-is), rw w.count-is (tallied_none P _ _ c.loop-k.invariant.1 (not_from_Decides _ at w.if-same_answer.false))) ]
+    let t = zip_turn c.args.first.now c.args.second.now c.loop-a.yielded c.into_iter-a-iterator.result c.loop-a.a-iterator c.next.new.self _ (search rules) (search rules) c.loop-a.yielded_by (c.in-Some.a, c.in-Some.b) c.in-Some.is c.next.ensures.steps in
+    let at = both_decide (unpacked vec_items) (λ (a b : Answer (List ℕ)). a ≡ b) c.args.first.now c.args.second.now (length c.loop-a.yielded) _ _ (Unmet 0) _ t.0 t.1 (t.2 c.in-Some.a.now) (t.3 c.in-Some.b.now) c.same_answer.ensures in
+    let n = length_push c.loop-a.yielded (c.in-Some.a, c.in-Some.b) in
+    (omega (arith, n, c.loop-a.invariant.0), subst (λ k. Tallied P k (c.loop-a.count + 1)) (sym n) (tallied_one P _ _ c.loop-a.invariant.1 (at.0 c.if-same_answer.true)))
 
-pub returns : goal.returns
-returns c =
+pub loop-a-preserved : goal.loop-a-preserved
+loop-a-preserved c =
     let P = EqualAt (map (unpacked vec_items) c.args.first.now) (map (unpacked vec_items) c.args.second.now) in
-    let e : c.loop-k.k ≡ c.min-k-end.result = omega arith in
-    subst (λ n. Tallied P n c.loop-k.count) (e ∙ c.min-k-end.ensures ∙ sym (both_lengths (unpacked vec_items) c.args.first.now c.args.second.now)) c.loop-k.invariant.1
+    let t = zip_turn c.args.first.now c.args.second.now c.loop-a.yielded c.into_iter-a-iterator.result c.loop-a.a-iterator c.next.new.self _ (search rules) (search rules) c.loop-a.yielded_by (c.in-Some.a, c.in-Some.b) c.in-Some.is c.next.ensures.steps in
+    let at = both_decide (unpacked vec_items) (λ (a b : Answer (List ℕ)). a ≡ b) c.args.first.now c.args.second.now (length c.loop-a.yielded) _ _ (Unmet 0) _ t.0 t.1 (t.2 c.in-Some.a.now) (t.3 c.in-Some.b.now) c.same_answer.ensures in
+    let n = length_push c.loop-a.yielded (c.in-Some.a, c.in-Some.b) in
+    (omega (arith, n, c.loop-a.invariant.0), subst (λ k. Tallied P k c.loop-a.count) (sym n) (tallied_none P _ _ c.loop-a.invariant.1 (not_from_Decides _ at c.if-same_answer.false)))

@@ -11,8 +11,10 @@ use Rattle.acceptance.proofs.trials.replay_both.Goals as goal
 
 pub returns : goal.returns
 returns g c =
-    let after = lent c.symmetry_trial.new.levels c.symmetry_trial.new.records c.symmetry_trial.new.signs (g.R.Rule.state c.symmetry_trial.new.rule) in
-    let other_After = lent c.symmetry_trial.new.other_levels c.symmetry_trial.new.other_records c.symmetry_trial.new.other_signs (g.Q.Rule.state c.symmetry_trial.new.other_rule) in
+    let x = c.symmetry_trial.new.side in
+    let y = c.symmetry_trial.new.other in
+    let after = lent x.1.0 x.1.1.0 x.1.1.1.0 (g.R.Rule.state x.0) in
+    let other_After = lent y.1.0 y.1.1.0 y.1.1.1.0 (g.Q.Rule.state y.0) in
     let levels : length c.deref_mut-4.result.now ≡ length c.deref_mut.result.now = omega (arith, c.deref_mut-4.ensures.len, c.deref_mut.ensures.len, c.in_ok-memory.ensures.0, c.in_ok-other_memory.ensures.0) in
     let records : length c.deref_mut-5.result.now ≡ length c.deref_mut-2.result.now = omega (arith, c.deref_mut-5.ensures.len, c.deref_mut-2.ensures.len, c.in_ok-memory.ensures.1, c.in_ok-other_memory.ensures.1) in
     let signs : length c.deref_mut-6.result.now ≡ length c.deref_mut-3.result.now = omega (arith, c.deref_mut-6.ensures.len, c.deref_mut-3.ensures.len, c.in_ok-memory.ensures.2, c.in_ok-other_memory.ensures.2) in

@@ -1,7 +1,7 @@
-use Rattle.std.proofs.Common.{refl}
-use Rattle.circulant.specs.Turns.{rows_of}
-use Rattle.circulant.proofs.Accepting.{made_as}
+use Rattle.circulant.proofs.Accepting.{made}
 use Rattle.circulant.proofs.Circulant.new.Goals as goal
 
 pub returns : goal.returns
-returns c = rw c.new.ensures (made_as c.args.rows c.args.columns c.args.size c.args.cells.now c.in_ok-grid.grid (rows_of c.in_ok-rows.rows) (rows_of c.in_ok-columns.columns) _ c.in_ok-grid.ensures c.in_ok-rows.ensures c.in_ok-columns.ensures refl)
+returns c =
+    let z = c.in_ok-cells.cells in
+    rw (c.new-2.ensures, c.in_ok-rows.ensures, c.in_ok-columns.ensures) (made c.args.rows c.args.columns c.args.size c.args.cells.now z.grid z.cells.now c.in_ok-cells.ensures)

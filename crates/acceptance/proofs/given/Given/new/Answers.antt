@@ -1,8 +1,7 @@
-use Rattle.std.proofs.Common.{◌≡◌, List, map, length, vec_items, subst, rules}
+use Rattle.std.proofs.Common.{◌≡◌, List, vec_items, subst, rules}
 use lib.Ieee.{Float}
-use Rattle.std.specs.List.{range_with_len}
 use Rattle.std.proofs.lemmas.Result.{IfOk-from_err}
-use Rattle.acceptance.specs.Frames.{image_at}
+use Rattle.acceptance.specs.Frames.{image_of}
 use Rattle.acceptance.proofs.Samples.{negated_by_image}
 use Rattle.acceptance.proofs.given.Given.new.Goals as goal
 
@@ -23,5 +22,5 @@ returns-in_err-other_samples c = search (rules, IfOk-from_err)
 
 pub returns : goal.returns
 returns c =
-    let image = subst (λ (zs : List Float). vec_items c.in_ok-other_samples.other_samples ≡ map (image_at zs) (range_with_len 0 (length zs))) c.deref.ensures.value c.in_ok-other_samples.ensures in
+    let image = subst (λ (zs : List Float). vec_items c.in_ok-other_samples.other_samples ≡ image_of zs) c.deref.ensures.value c.in_ok-other_samples.ensures in
     record { code = c.in_ok-code.ensures.lawful; word = c.in_ok-word.ensures.digits; samples = negated_by_image _ _ c.in_ok-samples.ensures.1 image }

@@ -3,11 +3,8 @@ use Rattle.plain.specs.declared.call.Call.TheVariants.{Round}
 use Rattle.decoder.proofs.Exactly.{step_from}
 use Rattle.decoder.proofs.frame.Frame.round.Goals as goal
 
-pub returns-in-Some : goal.returns-in-Some
-returns-in-Some g c = record { all = search rules; exact = step_from _ _ _ (g.N.Noise.lawful c.args.noise.now) Round _ _ (search rules); meaning = search rules }
+pub returns-in-Some-clause-exact : goal.returns-in-Some-clause-exact
+returns-in-Some-clause-exact g c = step_from _ _ _ (g.N.Noise.lawful c.args.noise.now) Round _ _ (search rules)
 
-pub returns-in-Some-verdict : goal.returns-in-Some-verdict
-returns-in-Some-verdict g c = record { all = search rules; exact = step_from _ _ _ (g.N.Noise.lawful c.args.noise.now) Round _ _ (search rules); meaning = search rules }
-
-pub returns : goal.returns
-returns g c = record { all = search rules; exact = step_from _ _ _ (g.N.Noise.lawful c.args.noise.now) Round _ _ (search rules); meaning = search rules }
+pub returns-in-None-clause-exact : goal.returns-in-None-clause-exact
+returns-in-None-clause-exact g c = step_from _ _ _ (g.N.Noise.lawful c.args.noise.now) Round _ _ (search rules)

@@ -1,4 +1,4 @@
-use Rattle.std.proofs.Common.{◌≡◌, Some, None, refl, ap, ◌∙◌, rules}
+use Rattle.std.proofs.Common.{◌≡◌, None, refl, ap, ◌∙◌, rules}
 use Rattle.decoder.specs.Memory.{held, verdict_in, rounded}
 use Rattle.decoder.proofs.Running.{begin, one_more, ends}
 use Rattle.decoder.proofs.frame.Frame.run.Goals as goal
@@ -6,10 +6,10 @@ use Rattle.decoder.proofs.frame.Frame.run.Goals as goal
 pub loop-verdict-init : goal.loop-verdict-init
 loop-verdict-init g c = (begin _ _ _ _, refl)
 
-pub returns-in-Some : goal.returns-in-Some
-returns-in-Some g c =
-    let stops : verdict_in c.loop-verdict.self c.loop-verdict.signs ≡ Some c.in-Some.verdict = search rules in
-    record { all = ends _ _ _ _ _ c.in-Some.verdict c.loop-verdict.invariant.0 stops; meaning = c.loop-verdict.invariant.1 }
+pub returns-in-Some-clause-all : goal.returns-in-Some-clause-all
+returns-in-Some-clause-all g c =
+    let now = held c.loop-verdict.self c.loop-verdict.records c.loop-verdict.signs (g.R.Rule.state c.loop-verdict.rule) in
+    ends _ _ _ _ now c.in-Some.verdict c.loop-verdict.invariant.0 (search rules)
 
 pub loop-verdict-preserved : goal.loop-verdict-preserved
 loop-verdict-preserved g c =
