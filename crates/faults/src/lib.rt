@@ -1,7 +1,7 @@
 // The one type of refusal: what went wrong, in which layer, and where.
 #![tactic(auto)]
 
-ghost use Rattle.std.specs.Prelude.{◌≡◌, Some};
+ghost use Rattle.std.specs.Prelude.{◌≡◌, Decides, Some};
 ghost use Rattle.faults.specs.declared.Fault.TheVariants.{NoMemory};
 ghost use Rattle.faults.specs.Rows.{row_of, printed};
 
@@ -109,6 +109,14 @@ impl Fault {
         ensures { result ≡ (row_of self.now).place }
     {
         self.row().2
+    }
+
+    // Whether it is the same fault, which `==` decides: no two have letter, number and place alike.
+    pub fn is_same(&self, other: &Fault) -> bool
+        ensures exact { Decides result (self.now ≡ other.now) }
+        ensures row { Decides result (row_of self.now ≡ row_of other.now) }
+    {
+        self == other
     }
 }
 

@@ -4,7 +4,7 @@ ghost use Rattle.faults.specs.Rows.{row_of};
 ghost use Rattle.noise.specs.Lawfuls.{generated_lawful};
 ghost use Rattle.noise.specs.Sources.{most_amplitude, mixed, spread, generated, amplitude_fault};
 
-use crate::limits::{SPAN, is_covered};
+use crate::limits::{MOST_AMPLITUDE, SPAN, is_covered};
 use crate::source::Noise;
 use faults::Fault;
 
@@ -52,7 +52,10 @@ impl Generator {
     pub fn new(seed: u32, amplitude: u32) -> Result<Generator, Fault>
         ensures { MatchResult result (λ g. (amplitude_fault amplitude ≡ None) × (g.seed ≡ seed) × (g.amplitude ≡ amplitude)) (λ e. amplitude_fault amplitude ≡ Some (row_of e)) }
     {
-        let amplitude = u8::try_from(amplitude).map_err(|_| Fault::AmplitudeRange)?;
+        if amplitude > MOST_AMPLITUDE {
+            return Err(Fault::AmplitudeRange);
+        }
+        let amplitude = amplitude as u8;
         Ok(Generator { seed, amplitude })
     }
 }

@@ -61,11 +61,11 @@ impl Multi {
     pub fn new(threshold: i32) -> Result<Multi, Fault>
         ensures { MatchResult result (λ m. (threshold_fault threshold ≡ None) × (m.threshold ≡ threshold)) (λ e. threshold_fault threshold ≡ Some (row_of e)) }
     {
-        i8::try_from(threshold)
-            .ok()
-            .filter(|_| (LEAST_THRESHOLD..=MOST_THRESHOLD).contains(&threshold))
-            .map(|threshold| Multi { threshold })
-            .ok_or(Fault::ThresholdRange)
+        if !(LEAST_THRESHOLD..=MOST_THRESHOLD).contains(&threshold) {
+            return Err(Fault::ThresholdRange);
+        }
+        let threshold = threshold as i8;
+        Ok(Multi { threshold })
     }
 }
 
