@@ -4,9 +4,10 @@ ghost use Rattle.std.specs.Prelude.{◌≡◌, ◌+◌, ◌<◌, ◌≤◌, ◌^
 // Bytes that follow one another in an input, and where in it they begin.
 #[derive(Clone, Copy, Debug, PartialEq, Eq)]
 pub struct Part<'a> {
+    pub(crate) input: &'a [u8],
     pub(crate) bytes: &'a [u8],
     pub(crate) place: usize,
-    ghost within: { place + length bytes.now < 2 ^ 64 },
+    ghost within: { place + length bytes.now ≤ length input.now },
 }
 
 impl<'a> Part<'a> {
@@ -18,8 +19,13 @@ impl<'a> Part<'a> {
         ensures bytes { bytes_of result ≡ drop count (bytes_of self.entry) }
         ensures place { result.place ≡ self.entry.place + count }
     {
-        let Part { bytes, place } = self;
+        let Part {
+            input,
+            bytes,
+            place,
+        } = self;
         Part {
+            input,
             bytes: &bytes[count..],
             place: place + count,
         }
@@ -28,7 +34,8 @@ impl<'a> Part<'a> {
     // The bytes of this part.
     pub fn bytes(&self) -> &'a [u8]
         ensures value { result.now ≡ bytes_of self.now }
-        ensures within { self.now.place + length result.now < 2 ^ 64 }
+        ensures within { self.now.place + length result.now ≤ length self.now.input.now }
+        ensures fits { self.now.place + length result.now < 2 ^ 64 }
     {
         self.bytes
     }

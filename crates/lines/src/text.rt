@@ -35,11 +35,16 @@ fn cut<'a>(part: Part<'a>) -> (Part<'a>, Part<'a>)
     requires { 0 < length (bytes_of part) }
     ensures { lines_from part.entry.place (bytes_of part.entry) ≡ placed_of result.0 ∷ lines_from result.1.place (bytes_of result.1) }
 {
-    let Part { bytes, place } = part;
+    let Part {
+        input,
+        bytes,
+        place,
+    } = part;
     let Some(n) = line_end(bytes) else {
         return (part, part.skip(bytes.len()));
     };
     let line = Part {
+        input,
         bytes: &bytes[..n],
         place,
     };
@@ -59,6 +64,7 @@ impl<'a> Text<'a> {
             return Err(Fault::InputLength);
         }
         let rest = Part {
+            input,
             bytes: input,
             place: 0,
         };
