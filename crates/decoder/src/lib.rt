@@ -7,4 +7,6 @@ mod opening;
 mod replaying;
 
 pub use frame::{Ended, Frame, Turn, Weights};
-pub use replaying::{Replayed, Side, Terms, Trial, replay, symmetry_trial};
+pub use replaying::{
+    Replayed, Side, Terms, Trial, replay, replay_on, symmetry_trial, symmetry_trial_on,
+};

@@ -140,9 +140,9 @@ pub fn replay<C: Code, R: Rule, N: Noise>(
     replay_on(heap, terms, rule, levels, records, signs, noise, samples)
 }
 
-// The same, of all that a side holds.
-// Kept: what a side holds, apart: moving the Side on whole was tried, and then nothing is known of what it leaves behind its references.
-fn replay_on<C: Code, R: Rule, N: Noise>(
+// The same, of all that a side holds, apart.
+// Kept: moving the Side on whole was tried, and then nothing is known of what it leaves behind its references; and of a list of its own that a caller lends through a Side it knows nothing afterwards.
+pub fn replay_on<C: Code, R: Rule, N: Noise>(
     heap: Global,
     terms: &Terms<C>,
     rule: &mut R,
@@ -211,15 +211,64 @@ pub fn symmetry_trial<C: Code, R: Rule, Q: Rule, N: Noise, M: Noise>(
         noise,
         samples,
     } = side;
-    let first = lasting(replay_on(heap, terms, rule, levels, records, signs, noise, samples))?;
     let Side {
+        rule: other_rule,
+        levels: other_levels,
+        records: other_records,
+        signs: other_signs,
+        noise: other_noise,
+        samples: other_samples,
+    } = other;
+    symmetry_trial_on(
+        heap,
+        terms,
         rule,
         levels,
         records,
         signs,
         noise,
         samples,
-    } = other;
-    let second = lasting(replay_on(heap, terms, rule, levels, records, signs, noise, samples))?;
+        other_rule,
+        other_levels,
+        other_records,
+        other_signs,
+        other_noise,
+        other_samples,
+    )
+}
+
+// The same, of all that both sides hold, apart.
+pub fn symmetry_trial_on<C: Code, R: Rule, Q: Rule, N: Noise, M: Noise>(
+    heap: Global,
+    terms: &Terms<C>,
+    rule: &mut R,
+    levels: &mut [i8],
+    records: &mut [Bit],
+    signs: &mut [Sign],
+    noise: &N,
+    samples: &[f32],
+    other_rule: &mut Q,
+    other_levels: &mut [i8],
+    other_records: &mut [Bit],
+    other_signs: &mut [Sign],
+    other_noise: &M,
+    other_samples: &[f32],
+) -> Result<Trial, Fault>
+    ensures outcomes { MatchResult result (λ t. Outcome (given C.Code.answers terms.now) (R.Rule.meaning rule.old) (N.Noise.noise noise.now) samples.now (lent levels.old records.old signs.old (R.Rule.state rule.old)) (lent levels.new records.new signs.new (R.Rule.state rule.new)) t.first × Outcome (given C.Code.answers terms.now) (Q.Rule.meaning other_rule.old) (M.Noise.noise other_noise.now) other_samples.now (lent other_levels.old other_records.old other_signs.old (Q.Rule.state other_rule.old)) (lent other_levels.new other_records.new other_signs.new (Q.Rule.state other_rule.new)) t.second × Lasting t.first × Lasting t.second) (λ e. e ≡ NoMemory) }
+    ensures symmetry { IfOk result (λ t. CodewordSymmetry (given C.Code.answers terms.now) (R.Rule.meaning rule.old) (Q.Rule.meaning other_rule.old) (N.Noise.noise noise.now) (M.Noise.noise other_noise.now) samples.now other_samples.now (lent levels.old records.old signs.old (R.Rule.state rule.old)) (lent other_levels.old other_records.old other_signs.old (Q.Rule.state other_rule.old)) (lent levels.new records.new signs.new (R.Rule.state rule.new)) (lent other_levels.new other_records.new other_signs.new (Q.Rule.state other_rule.new)) t.first t.second) }
+    ensures meaning { R.Rule.meaning rule.new ≡ R.Rule.meaning rule.old }
+    ensures other_meaning { Q.Rule.meaning other_rule.new ≡ Q.Rule.meaning other_rule.old }
+{
+    let first = lasting(replay_on(heap, terms, rule, levels, records, signs, noise, samples))?;
+    let second = lasting(replay_on(
+        heap,
+        terms,
+        other_rule,
+        other_levels,
+        other_records,
+        other_signs,
+        other_noise,
+        other_samples,
+    ))?;
     Ok(Trial { first, second })
 }

@@ -58,8 +58,8 @@ fn by_bit() -> [Pair; 12]
     ]
 }
 
-// The pairs as a listed code, unless there is no memory for it.
-fn listed(heap: Global) -> Result<Listed, Fault>
+// The code as a listed one, unless there is no memory for it.
+pub fn listed(heap: Global) -> Result<Listed, Fault>
     ensures { MatchResult result (λ l. Lawful (listed_of l) seven_pairs) (λ e. e ≡ NoMemory) }
 {
     Listed::new(heap, BITS, CHECKS, &by_check(), &by_bit())
