@@ -1,9 +1,10 @@
 // A grid with its cells: their first fault, and the lists that they make.
-ghost use Rattle.std.specs.Prelude.{◌≡◌, ◌*◌, ◌<◌, ◌≤◌, length, map, not, position, None, Some, vec_items, All, IfOk, MatchResult};
+ghost use Rattle.std.specs.Prelude.{◌≡◌, ◌*◌, ◌<◌, ◌≤◌, [], ◌∷◌, ◌++◌, length, map, not, position, None, Some, All, IfOk, OnOk, MatchResult};
 ghost use Rattle.std.specs.List.{find, range_with_len};
 ghost use Rattle.faults.specs.First.{fault_at};
 ghost use Rattle.faults.specs.Rows.{row_of, C};
 ghost use Rattle.codes.specs.Degrees.{outside, degree_fault};
+ghost use Rattle.codes.specs.Held.{lists_in, open_in};
 ghost use Rattle.codes.specs.Limits.{stride};
 ghost use Rattle.circulant.specs.Circles.{bad_cell, cell_at, circulant_pairs, circulant_fault};
 ghost use Rattle.circulant.specs.Turns.{majors, minors, cell_of, turn_at, turns_of, landing, lists_of, wrong_at, Accepted};
@@ -11,7 +12,7 @@ ghost use Rattle.circulant.specs.Turns.{majors, minors, cell_of, turn_at, turns_
 use crate::grid::Grid;
 use crate::line::Line;
 use crate::turn::Turn;
-use codes::{MOST_BIT_DEGREE, MOST_CHECK_DEGREE, Side};
+use codes::{Lists, MOST_BIT_DEGREE, MOST_CHECK_DEGREE, Side};
 use faults::Fault;
 use std::alloc::{AllocError, Global};
 
@@ -108,28 +109,28 @@ impl<'a> Cells<'a> {
         self.check_side(Side::ByBit, 0, MOST_BIT_DEGREE)
     }
 
-    // The list of one check, or of one bit.
-    fn list(&self, heap: Global, turns: &[Turn], offset: usize) -> Result<Vec<u16>, AllocError>
+    // Adds the list of one check, or of one bit.
+    fn add_list(&self, lists: &mut Lists, turns: &[Turn], offset: usize) -> Result<(), AllocError>
         requires near { All (λ t. t.start ≤ stride) turns.now }
         requires place { offset < self.now.grid.size }
-        ensures { IfOk result (λ v. v.items ≡ map (landing self.now.grid.size offset) turns.now) }
+        ensures { OnOk result ((lists_in lists.new ≡ lists_in lists.old ++ (open_in lists.old ++ map (landing self.now.grid.size offset) turns.now) ∷ []) × (open_in lists.new ≡ [])) }
     {
-        turns
-            .iter()
-            .map(|turn| turn.landing(self.grid.size, offset))
-            .collect(heap)
+        for turn in turns {
+            lists.add(turn.landing(self.grid.size, offset))?;
+        }
+        lists.close()
     }
 
     // The list of each check, or of each bit. All of a row or a column share its turns.
     // Kept: two ranges with nothing to walk; one chain over both would find the turns again at each offset.
-    pub(crate) fn lists(&self, heap: Global, side: Side) -> Result<Vec<Vec<u16>>, AllocError>
-        ensures { IfOk result (λ v. map vec_items v.items ≡ lists_of side self.now.grid self.now.cells.now) }
+    pub(crate) fn lists(&self, heap: Global, side: Side) -> Result<Lists, AllocError>
+        ensures { IfOk result (λ l. lists_in l ≡ lists_of side self.now.grid self.now.cells.now) }
     {
-        let mut lists = Vec::new(heap);
+        let mut lists = Lists::new(heap)?;
         for number in 0..self.grid.majors(side) {
             let turns = self.line(side, number).turns(heap)?;
             for offset in 0..self.grid.size {
-                lists.push(self.list(heap, &turns, offset)?)?;
+                self.add_list(&mut lists, &turns, offset)?;
             }
         }
         Ok(lists)

@@ -1,6 +1,7 @@
 pub mod Absent
 pub mod Limiting
 pub mod Sizes
+pub mod Held
 pub mod Images
 pub mod Counts
 pub mod Agreeing

@@ -1,8 +1,10 @@
 -- Lists that are each at a number: their sizes and places, the longest, and the table that they are.
-use Rattle.std.proofs.Common.{◌≡◌, ℕ, zero, suc, ◌<◌, ◌≤◌, ◌⊎◌, inl, inr, max, Bool, List, [], ◌∷◌, length, get_or, Some, None, sym, refl, ap, ◌∙◌, ⊎_elim, arith}
+use Rattle.std.proofs.Common.{◌≡◌, ℕ, zero, suc, ◌+◌, ◌<◌, ◌≤◌, ◌⊎◌, inl, inr, max, Bool, List, [], ◌∷◌, length, get_or, take, Some, None, sym, refl, ap, ◌∙◌, ⊎_elim, arith}
 use Rattle.std.specs.Prelude.{fold, slice_get}
 use Rattle.std.specs.Option.{option_map, option_and_then}
 use Rattle.std.proofs.lemmas.Bool.{cases_lt}
+use Rattle.std.proofs.lemmas.List.{take_more}
+use Rattle.std.proofs.lemmas.List.Sums.{fold-append}
 use Rattle.std.proofs.lemmas.Option.{slice_get-get_or, slice_get_past}
 use Rattle.codes.specs.Lawful.{Lists, Table}
 use Rattle.codes.specs.Lists.{size_in, place_in, longest}
@@ -43,6 +45,12 @@ from_most : (n : ℕ) (lists : List (List ℕ)) (i : ℕ) → i < length lists �
 from_most n [] i h = absurd (omega arith)
 from_most n (l ∷ lists) zero h = let k = from_least (max n (length l)) lists in omega arith
 from_most n (l ∷ lists) (suc i) h = from_most (max n (length l)) lists i (omega arith)
+
+-- one list more
+pub longest_more : (lists : List (List ℕ)) (i n : ℕ) → size_in lists i ≡ Some n → longest (take (i + 1) lists) ≡ max (longest (take i lists)) n
+longest_more lists i n e =
+    let r = size_read lists i n e in
+    ap longest (take_more lists i [] r.0) ∙ fold-append (λ (most : ℕ) (l : List ℕ). max most (length l)) 0 (take i lists) (list_at lists i ∷ []) ∙ ap (max (longest (take i lists))) (sym r.1)
 
 -- some list is as long, or none is longer than n
 from_met : (n : ℕ) (lists : List (List ℕ)) → (longest_from n lists ≡ n) ⊎ ((i : ℕ) × (i < length lists) × (length (list_at lists i) ≡ longest_from n lists))

@@ -4,6 +4,7 @@ pub mod Answers
 pub mod Lawful
 pub mod Degrees
 pub mod Lists
+pub mod Held
 pub mod Cross
 pub mod Agree
 pub mod Linear

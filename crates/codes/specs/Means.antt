@@ -1,13 +1,13 @@
 -- What each kind of code answers, by what it holds. Assumes nothing.
-use Rattle.std.specs.Prelude.{map, vec_items}
 use Rattle.codes.specs.declared.matrix.Matrix.{Matrix}
 use Rattle.codes.specs.declared.product.Product.{Product}
 use Rattle.codes.specs.Answers.{Answers}
 use Rattle.codes.specs.Lists.{held}
+use Rattle.codes.specs.Held.{lists_in}
 use Rattle.codes.specs.Cross.{cross}
 
 abbrev pub matrix_of : Matrix → Answers
-matrix_of m = held (map vec_items (vec_items m.rows)) (map vec_items (vec_items m.columns)) m.widest
+matrix_of m = held (lists_in m.rows) (lists_in m.columns) m.widest
 
 -- a product, by what its parts answer
 abbrev pub product_of : {A B : Type 0} → (A → Answers) → (B → Answers) → Product A B → Answers

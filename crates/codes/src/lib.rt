@@ -4,6 +4,7 @@
 mod code;
 mod laws;
 mod limits;
+mod lists;
 mod matrix;
 mod product;
 mod shape;
@@ -14,6 +15,7 @@ pub use laws::{codewords_add, lists_agree};
 pub use limits::{
     MOST_BIT_DEGREE, MOST_BITS, MOST_CHECK_DEGREE, MOST_CHECKS, MOST_SIZE, STRIDE, sizes_fit,
 };
+pub use lists::Lists;
 pub use matrix::{AsMatrix, Matrix};
 pub use product::Product;
 pub use side::Side;

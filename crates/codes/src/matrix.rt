@@ -1,28 +1,48 @@
 // A parity-check matrix held both ways: the bits of each check, and the checks of each bit.
-ghost use Rattle.std.specs.Prelude.{◌≡◌, map, vec_items};
-ghost use Rattle.codes.specs.Lists.{place_in, longest, held_by};
+ghost use Rattle.std.specs.Prelude.{◌≡◌};
+ghost use Rattle.codes.specs.Lists.{size_in, place_in, longest, held_by};
+ghost use Rattle.codes.specs.Held.{lists_in};
 ghost use Rattle.codes.specs.Means.{matrix_of};
 
 use crate::code::Code;
+use crate::lists::Lists;
 
 #[derive(Drop)]
 pub struct Matrix {
-    pub rows: Vec<Vec<u16>>,
-    pub columns: Vec<Vec<u16>>,
+    pub rows: Lists,
+    pub columns: Lists,
     pub widest: usize,
 }
 
-// The most items that one list has.
-fn longest(lists: &[Vec<u16>]) -> usize
-    ensures { result ≡ longest (map vec_items lists.now) }
+// How many items a list has.
+fn size(lists: &Lists, at: usize) -> Option<usize>
+    ensures { result ≡ size_in (lists_in lists.now) at }
 {
-    lists.iter().fold(0, |most, list| most.max(list.len()))
+    lists.get(at).map(|list| list.len())
+}
+
+// The item at a place of a list.
+fn item(lists: &Lists, at: usize, place: usize) -> Option<usize>
+    ensures { result ≡ place_in (lists_in lists.now) at place }
+{
+    lists.get(at)?.get(place).map(|item| usize::from(*item))
+}
+
+// The most items that one list has.
+fn longest(lists: &Lists) -> usize
+    ensures { result ≡ longest (lists_in lists.now) }
+{
+    let mut most = 0;
+    for at in 0..lists.len() {
+        most = most.max(size(lists, at).unwrap_or(0));
+    }
+    most
 }
 
 impl Matrix {
     // The matrix of these lists; nothing is asked of them.
-    pub fn new(rows: Vec<Vec<u16>>, columns: Vec<Vec<u16>>) -> Matrix
-        ensures { matrix_of result ≡ held_by (map vec_items rows.items) (map vec_items columns.items) }
+    pub fn new(rows: Lists, columns: Lists) -> Matrix
+        ensures { matrix_of result ≡ held_by (lists_in rows) (lists_in columns) }
     {
         let widest = longest(&columns);
         Matrix {
@@ -51,13 +71,6 @@ impl AsMatrix for Matrix {
     }
 }
 
-// The item at a place of a list.
-fn item(lists: &[Vec<u16>], at: usize, place: usize) -> Option<usize>
-    ensures { result ≡ place_in (map vec_items lists.now) at place }
-{
-    lists.get(at)?.get(place).map(|item| usize::from(*item))
-}
-
 impl<T: AsMatrix> Code for T {
     ghost answers = { λ t. matrix_of (T.AsMatrix.matrix t) };
 
@@ -74,7 +87,7 @@ impl<T: AsMatrix> Code for T {
     }
 
     fn check_degree(&self, check: usize) -> Option<usize> {
-        self.as_matrix().rows.get(check).map(Vec::len)
+        size(&self.as_matrix().rows, check)
     }
 
     fn check_bit(&self, check: usize, place: usize) -> Option<usize> {
@@ -82,7 +95,7 @@ impl<T: AsMatrix> Code for T {
     }
 
     fn bit_degree(&self, bit: usize) -> Option<usize> {
-        self.as_matrix().columns.get(bit).map(Vec::len)
+        size(&self.as_matrix().columns, bit)
     }
 
     fn bit_check(&self, bit: usize, place: usize) -> Option<usize> {

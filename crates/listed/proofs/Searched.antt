@@ -1,9 +1,9 @@
 -- Lists of pairs that rise, and what a search in one finds.
-use Rattle.std.proofs.Common.{◌≡◌, ℕ, zero, suc, ◌+◌, ◌-◌, ◌*◌, ◌<◌, ◌≤◌, Bool, true, false, eqb, leb, ltb, List, [], ◌∷◌, length, get_or, take, drop, filter, Result, Ok, Err, sym, refl, ap, ◌∙◌, ⊎_elim, arith}
+use Rattle.std.proofs.Common.{◌≡◌, ℕ, zero, suc, ◌+◌, ◌-◌, ◌*◌, ◌<◌, ◌≤◌, Bool, true, false, eqb, ltb, List, [], ◌∷◌, length, get_or, take, drop, filter, Result, Ok, Err, sym, refl, ap, ◌∙◌, ⊎_elim, arith}
 use denote.Param.Members.{Mut}
 use denote.Ref.{Bor}
 use Rattle.std.specs.Fn.{Called, ComputesKey}
-use Rattle.std.specs.List.{AllWithin}
+use Rattle.std.specs.List.{AllWithin, prefix_len}
 use Rattle.std.specs.List.Sorted.{IsNonDecreasingBy, IsPartitionedBy, IsPartitionPoint, IsBinarySearchResult, IsSearchInRange}
 use Rattle.std.specs.declared.cmp.Ordering.{Ordering}
 use Rattle.std.specs.Ordering.{is_eq, nat_cmp, ordering_then, ordering_index}
@@ -11,10 +11,11 @@ use Rattle.std.specs.Result.{is_ok}
 use Rattle.std.proofs.lemmas.Bool.{cases_eq, cases_lt, cases_Bool, and_parts, eqb-true}
 use Rattle.std.proofs.lemmas.Bool.Decides.{nat_tests}
 use Rattle.std.proofs.lemmas.Fn.{always_returns_same}
-use Rattle.std.proofs.lemmas.List.{get_or_default}
+use Rattle.std.proofs.lemmas.List.{get_or_default, get_or-drop, length-drop}
 use Rattle.std.proofs.lemmas.List.Elements.{All-filter}
 use Rattle.std.proofs.lemmas.List.Recursion.{or_at, or_from_places}
-use Rattle.std.proofs.lemmas.List.Sorted.{IsNonDecreasingBy-from_default, IsPartitionPoint-from_clause, IsPartitionedBy-leb, IsPartitionedBy-ltb}
+use Rattle.std.proofs.lemmas.List.Sums.{prefix_len_passes, prefix_len_stops, prefix_len-le-length}
+use Rattle.std.proofs.lemmas.List.Sorted.{IsNonDecreasingBy-from_default, IsPartitionPoint-from_clause, IsPartitionedBy-ltb}
 use Rattle.listed.specs.declared.pair.Pair.{Pair}
 use Rattle.codes.specs.declared.side.Side.{Side}
 use Rattle.codes.specs.declared.side.Side.TheVariants.{ByCheck, ByBit}
@@ -110,31 +111,32 @@ majors_rise s xs o = IsNonDecreasingBy-from_default (major_of s) xs blank (λ i 
 pub minors_small : (s : Side) (xs : List Pair) (at k : ℕ) (d : Pair) → Sorted s xs → k < length (filter (λ p. eqb (major_of s p) at) xs) → minor_of s (get_or (filter (λ p. eqb (major_of s p) at) xs) k d) < stride
 minors_small s xs at k d o = All-filter (λ p. eqb (major_of s p) at) (λ p. minor_of s p < stride) xs (λ i e h. rw (get_or_default xs i e blank h) (minor_small s xs o i h)) k d
 
--- what the two searches for a number say: the places come in turn, and hold its pairs between them
-module _ {F G : Type 0} {g : Mut F (Bor Pair × Unit {0}) Bool} {h : Mut G (Bor Pair × Unit {0}) Bool} {f : F} {e : G} (s : Side) (xs : List Pair) (o : Sorted s xs) (at a b : ℕ)
+-- what the search for a number says: its pairs stand at the place that was found, and after them those of higher numbers
+module _ {F : Type 0} {g : Mut F (Bor Pair × Unit {0}) Bool} {f : F} (s : Side) (xs : List Pair) (o : Sorted s xs) (at a : ℕ)
     (low : a ≤ length xs)
-    (high : b ≤ length xs)
     (lower : (q : Pair → Bool) → ComputesKey g q f → IsPartitionedBy q xs → IsPartitionPoint (λ y. q y ≡ true) (λ y. q y ≡ false) xs a)
-    (upper : (q : Pair → Bool) → ComputesKey h q e → IsPartitionedBy q xs → IsPartitionPoint (λ y. q y ≡ true) (λ y. q y ≡ false) xs b)
-    (below : (y : Bor Pair × Unit {0}) (r : Bool) (t : F) → Called g f y r t → (r ≡ ltb (major_of s y.0.now) at) × (t ≡ f))
-    (upto : (y : Bor Pair × Unit {0}) (r : Bool) (t : G) → Called h e y r t → (r ≡ leb (major_of s y.0.now) at) × (t ≡ e)) where
+    (below : (y : Bor Pair × Unit {0}) (r : Bool) (t : F) → Called g f y r t → (r ≡ ltb (major_of s y.0.now) at) × (t ≡ f)) where
   lower_is : IsPartitionPoint (λ y. ltb (major_of s y) at ≡ true) (λ y. ltb (major_of s y) at ≡ false) xs a
   lower_is = IsPartitionPoint-from_clause (λ y. ltb (major_of s y) at) xs a lower (IsPartitionedBy-ltb (major_of s) xs at (majors_rise s xs o)) below
 
-  upper_is : IsPartitionPoint (λ y. leb (major_of s y) at ≡ true) (λ y. leb (major_of s y) at ≡ false) xs b
-  upper_is = IsPartitionPoint-from_clause (λ y. leb (major_of s y) at) xs b upper (IsPartitionedBy-leb (major_of s) xs at (majors_rise s xs o)) upto
+  -- the first of the higher numbers is higher, and so are those after it
+  higher : (n : ℕ) → prefix_len (λ p. eqb (major_of s p) at) (drop a xs) ≡ n → (k : ℕ) (d : Pair) → a + n ≤ k → k < length xs → at < major_of s (get_or xs k d)
+  higher n is k d h l =
+      let stop : eqb (major_of s (get_or (drop a xs) n blank)) at ≡ false = rw (← is) (prefix_len_stops (λ p. eqb (major_of s p) at) (drop a xs) blank (omega (arith, is, length-drop a xs))) in
+      let other : eqb (major_of s (get_or xs (a + n) blank)) at ≡ false = rw (get_or-drop a xs n blank) at stop in
+      let least : ltb (major_of s (get_or xs (a + n) blank)) at ≡ false = lower_is.1 (a + n) blank (omega arith) (omega arith) in
+      let up : major_of s (get_or xs (a + n) blank) ≤ major_of s (get_or xs k blank) = majors_rise s xs o (a + n) k blank h l in
+      let here : at < major_of s (get_or xs k blank) = grind (arith, nat_tests) in
+      rw (get_or_default xs k d blank l) here
 
-  pub in_turn : a ≤ b
-  in_turn =
-      ⊎_elim
-      (λ (l : b < a). let f = lower_is.0 b blank (omega arith) l in let g = upper_is.1 b blank (omega arith) (omega arith) in absurd (grind (arith, nat_tests)))
-      (λ (l : a ≤ b). l)
-      (cases_lt b a)
-
-  pub part_is : take (b - a) (drop a xs) ≡ filter (λ p. eqb (major_of s p) at) xs
+  pub part_is : take (prefix_len (λ p. eqb (major_of s p) at) (drop a xs)) (drop a xs) ≡ filter (λ p. eqb (major_of s p) at) xs
   part_is =
-      let l = in_turn in
-      part_kept (λ p. eqb (major_of s p) at) xs a (b - a) (omega arith)
-      (λ k d m n. let f = lower_is.0 k d m n in grind (arith, nat_tests))
-      (λ k d m n. let f = lower_is.1 k d m (omega arith) in let g = upper_is.0 k d (omega arith) (omega arith) in grind (arith, nat_tests))
-      (λ k d m n. let g = upper_is.1 k d (omega arith) n in grind (arith, nat_tests))
+      let n = prefix_len (λ p. eqb (major_of s p) at) (drop a xs) in
+      let within : n ≤ length (drop a xs) = prefix_len-le-length (λ p. eqb (major_of s p) at) (drop a xs) in
+      part_kept (λ p. eqb (major_of s p) at) xs a n (omega (arith, within, length-drop a xs))
+      (λ k d m l. let f = lower_is.0 k d m l in grind (arith, nat_tests))
+      (λ k d m l.
+      let passes = prefix_len_passes (λ p. eqb (major_of s p) at) (drop a xs) (k - a) d (omega arith) in
+      let here : a + (k - a) ≡ k = omega arith in
+      rw (get_or-drop a xs (k - a) d, here) at passes)
+      (λ k d m l. let up = higher n refl k d m l in grind (arith, nat_tests))

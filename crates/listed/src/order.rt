@@ -1,12 +1,13 @@
 // Lists of pairs in the two orders: what is wrong with one, and what one that rises holds.
-ghost use Rattle.std.specs.Prelude.{◌≡◌, ◌<◌, ◌==◌, not, map, filter, position, length, vec_items, IfOk};
-ghost use Rattle.std.specs.List.{range_with_len};
+ghost use Rattle.std.specs.Prelude.{◌≡◌, ◌<◌, ◌==◌, ◌++◌, not, map, filter, position, length, IfOk, OnOk};
+ghost use Rattle.std.specs.List.{prefix_len, range_with_len};
 ghost use Rattle.faults.specs.First.{first};
+ghost use Rattle.codes.specs.Held.{lists_in, open_in};
 ghost use Rattle.listed.specs.Listing.{wrong_count};
 ghost use Rattle.listed.specs.Order.{major_of, bad_at, has_pair, row_of, Sorted};
 
 use crate::pair::Pair;
-use codes::Side;
+use codes::{Lists, Side};
 use std::alloc::{AllocError, Global};
 
 // Whether the pair at i is out of range, or not above the one before it.
@@ -26,6 +27,13 @@ pub(crate) fn first_bad(bits: usize, checks: usize, side: Side, pairs: &[Pair]) 
     ensures { result ≡ first (bad_at bits checks side pairs.now) (length pairs.now) }
 {
     (0..pairs.len()).find(|i| bad_at(bits, checks, side, pairs, *i))
+}
+
+// How many pairs of a number stand first.
+fn count_first(side: Side, at: usize, pairs: &[Pair]) -> usize
+    ensures { result ≡ prefix_len (λ p. major_of side p == at) pairs.now }
+{
+    pairs.iter().take_while(|p| p.number(side) == at).count()
 }
 
 // Pairs that rise in a side's order, with numbers within the limits.
@@ -59,8 +67,8 @@ impl<'a> Rising<'a> {
         ensures { result.now ≡ filter (λ p. major_of self.now.side p == at) self.now.pairs.now }
     {
         let start = self.pairs.partition_point(|p| p.number(self.side) < at);
-        let end = self.pairs.partition_point(|p| p.number(self.side) <= at);
-        &self.pairs[start..end]
+        let rest = &self.pairs[start..];
+        &rest[..count_first(self.side, at, rest)]
     }
 
     // Whether a number has too few pairs or too many.
@@ -78,21 +86,27 @@ impl<'a> Rising<'a> {
         (0..count).find(move |at| self.wrong_count(least, most, *at))
     }
 
-    // The row of a number: the other numbers of its pairs.
-    fn row(&self, heap: Global, at: usize) -> Result<Vec<u16>, AllocError>
-        ensures { IfOk result (λ v. v.items ≡ row_of self.now.side self.now.pairs.now at) }
+    // Adds the row of a number to the list that is being made: the other numbers of its pairs.
+    fn add_row(&self, lists: &mut Lists, at: usize) -> Result<(), AllocError>
+        ensures { OnOk result ((lists_in lists.new ≡ lists_in lists.old) × (open_in lists.new ≡ open_in lists.old ++ row_of self.now.side self.now.pairs.now at)) }
     {
         let other = self.side.other();
-        self.pairs_of(at)
-            .iter()
-            .map(|p| p.number(other) as u16)
-            .collect(heap)
+        let pairs = self.pairs_of(at);
+        for p in pairs {
+            lists.add(p.number(other) as u16)?;
+        }
+        Ok(())
     }
 
     // The rows of the numbers below `count`.
-    pub(crate) fn table(&self, heap: Global, count: usize) -> Result<Vec<Vec<u16>>, AllocError>
-        ensures { IfOk result (λ v. map vec_items v.items ≡ map (row_of self.now.side self.now.pairs.now) (range_with_len 0 count)) }
+    pub(crate) fn table(&self, heap: Global, count: usize) -> Result<Lists, AllocError>
+        ensures { IfOk result (λ l. lists_in l ≡ map (row_of self.now.side self.now.pairs.now) (range_with_len 0 count)) }
     {
-        (0..count).map(|at| self.row(heap, at)).try_collect(heap)
+        let mut lists = Lists::new(heap)?;
+        for at in 0..count {
+            self.add_row(&mut lists, at)?;
+            lists.close()?;
+        }
+        Ok(lists)
     }
 }

@@ -1,14 +1,13 @@
-use Rattle.std.proofs.Common.{rules}
-use Rattle.listed.proofs.Searched.{in_turn, part_is}
+use Rattle.std.proofs.Common.{◌≡◌, drop, eqb, rules}
+use Rattle.std.proofs.lemmas.List.{take_rest}
+use Rattle.std.specs.List.{prefix_len}
+use Rattle.listed.specs.Order.{major_of}
+use Rattle.listed.proofs.Searched.{part_is}
 use Rattle.listed.proofs.order.Rising.pairs_of.Goals as goal
 
-pub slice_bounds-result-count : goal.slice_bounds-result-count
-slice_bounds-result-count c = in_turn _ _ c.args.self.now.rises c.args.at _ _ c.partition_point-start.ensures.bound c.partition_point-end.ensures.bound c.partition_point-start.ensures.partitioned c.partition_point-end.ensures.partitioned (λ y r t k. search rules) (λ y r t k. search rules)
-
-pub slice_bounds-result-start : goal.slice_bounds-result-start
-slice_bounds-result-start c =
-    let l = in_turn _ _ c.args.self.now.rises c.args.at _ _ c.partition_point-start.ensures.bound c.partition_point-end.ensures.bound c.partition_point-start.ensures.partitioned c.partition_point-end.ensures.partitioned (λ y r t k. search rules) (λ y r t k. search rules) in
-    search rules
-
 pub returns : goal.returns
-returns c = part_is _ _ c.args.self.now.rises c.args.at _ _ c.partition_point-start.ensures.bound c.partition_point-end.ensures.bound c.partition_point-start.ensures.partitioned c.partition_point-end.ensures.partitioned (λ y r t k. search rules) (λ y r t k. search rules)
+returns c =
+    let part = part_is _ _ c.args.self.now.rises c.args.at _ c.partition_point-start.ensures.bound c.partition_point-start.ensures.partitioned (λ y r t k. search rules) in
+    let rest = take_rest c.args.self.now.pairs.now c.partition_point-start.result in
+    let count : c.count_first.result ≡ prefix_len (λ p. eqb (major_of c.args.self.now.side p) c.args.at) (drop c.partition_point-start.result c.args.self.now.pairs.now) = rw rest at c.count_first.ensures in
+    rw (rest, count) part
