@@ -107,7 +107,11 @@ module _ (l : Lists) where
   unfolding lists_in open_in
   empty_in e f = rw (e, f) (refl, refl)
 
-  -- with one item more, and with one list more
+  -- with as many, and with one item more, and with one list more
+  pub same_in : (m : Lists) → vec_items m.starts ≡ vec_items l.starts → vec_items m.items ≡ vec_items l.items → (lists_in m ≡ lists_in l) × (open_in m ≡ open_in l)
+  unfolding lists_in open_in
+  same_in m e f = rw (e, f) (refl, refl)
+
   pub added_in : (m : Lists) (x : ℕ) → vec_items m.starts ≡ vec_items l.starts → vec_items m.items ≡ vec_items l.items ++ x ∷ [] → (lists_in m ≡ lists_in l) × (open_in m ≡ open_in l ++ x ∷ [])
   unfolding lists_in open_in
   added_in m x e f = rw e (added (vec_items l.starts) (vec_items l.items) l.some l.rises l.within (vec_items m.items) x f)

@@ -15,7 +15,7 @@ pub struct Lists {
 }
 
 impl Lists {
-    ghost use Rattle.std.specs.Prelude.{[], ◌∷◌, ◌++◌, slice_get, option_map, IfOk, OnOk};
+    ghost use Rattle.std.specs.Prelude.{[], ◌∷◌, ◌++◌, slice_get, option_map, IfOk, MatchResult};
     ghost use Rattle.codes.specs.Held.{lists_in, open_in};
 
     // No list, and no item of one.
@@ -32,7 +32,7 @@ impl Lists {
 
     // Adds an item to the list that is being made.
     pub fn add(&mut self, item: u16) -> Result<(), AllocError>
-        ensures { OnOk result ((lists_in self.new ≡ lists_in self.old) × (open_in self.new ≡ open_in self.old ++ item ∷ [])) }
+        ensures { MatchResult result (λ _. (lists_in self.new ≡ lists_in self.old) × (open_in self.new ≡ open_in self.old ++ item ∷ [])) (λ _. (lists_in self.new ≡ lists_in self.old) × (open_in self.new ≡ open_in self.old)) }
     {
         self.items.push(item)?;
         Ok(())
@@ -40,7 +40,7 @@ impl Lists {
 
     // Ends the list that is being made, and begins another. More than `u32::MAX` items are too many.
     pub fn close(&mut self) -> Result<(), AllocError>
-        ensures { OnOk result ((lists_in self.new ≡ lists_in self.old ++ open_in self.old ∷ []) × (open_in self.new ≡ [])) }
+        ensures { MatchResult result (λ _. (lists_in self.new ≡ lists_in self.old ++ open_in self.old ∷ []) × (open_in self.new ≡ [])) (λ _. (lists_in self.new ≡ lists_in self.old) × (open_in self.new ≡ open_in self.old)) }
     {
         let end = u32::try_from(self.items.len()).map_err(|_| AllocError)?;
         self.starts.push(end)?;

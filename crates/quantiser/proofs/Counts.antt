@@ -23,13 +23,13 @@ unfolding steps_reached
 reached_le s x zero = omega arith
 reached_le s x (suc k) = omega (arith, reached_le s x k, one_le (le (boundary s (suc k)) x))
 
-unit_is : (t : Bool) → from_bool t ≡ one t
-unit_is true = refl
-unit_is false = refl
-
 -- one more boundary, counted by its test
 pub reached_next : (s x : Float) (k reached one_more : ℕ) (t : Bool) → (reached ≡ steps_reached s x k) × (reached ≤ k) → t ≡ le (boundary s (k + 1)) x → one_more ≡ from_bool t → (reached + one_more ≡ steps_reached s x (k + 1)) × (reached + one_more ≤ k + 1)
-reached_next s x k reached one_more t h e f =
-    let more = reached_more s x k t e in
-    let unit : one_more ≡ one t = f ∙ unit_is t in
-    (omega (arith, h.0, more, unit), omega (arith, h.1, unit, one_le t))
+reached_next s x k reached one_more true h e f =
+    let more = reached_more s x k true e in
+    let one : one_more ≡ 1 = f in
+    (omega (arith, h.0, more), omega (arith, h.1))
+reached_next s x k reached one_more false h e f =
+    let more = reached_more s x k false e in
+    let none : one_more ≡ 0 = f in
+    (omega (arith, h.0, more), omega (arith, h.1))
