@@ -1,6 +1,7 @@
--- Lists of numbers that are held end to end, with the start of each. Assumes nothing.
-use Rattle.std.specs.Prelude.{ℕ, ◌+◌, ◌-◌, List, length, map, drop, vec_items, slice_index, slice_range}
+-- Lists of numbers that are held end to end, with the start of each, or in vectors. Assumes nothing.
+use Rattle.std.specs.Prelude.{ℕ, ◌+◌, ◌-◌, List, length, map, drop, Vec, vec_items, slice_index, slice_range}
 use Rattle.std.specs.List.{range_with_len}
+use Rattle.std.specs.Global.{Global}
 use Rattle.codes.specs.declared.lists.Lists.{Lists}
 
 -- the items from one start to the next
@@ -14,3 +15,7 @@ lists_in l = map (items_at (vec_items l.starts) (vec_items l.items)) (range_with
 -- the items of the list that is being made: those from the last start on
 unfoldable pub open_in : Lists → List ℕ
 open_in l = drop (slice_index (vec_items l.starts) (length (vec_items l.starts) - 1)) (vec_items l.items)
+
+-- the lists that vectors are
+abbrev pub lists_of_vectors : Vec (Vec ℕ Global) Global → List (List ℕ)
+lists_of_vectors v = map vec_items (vec_items v)
