@@ -1,13 +1,29 @@
 // A part of an input.
-ghost use Rattle.std.specs.Prelude.{◌≡◌, ◌+◌, ◌<◌, ◌≤◌, ◌^◌, drop, length};
+ghost use Rattle.std.specs.Prelude.{◌≡◌, ◌+◌, ◌<◌, ◌≤◌, ◌^◌, Decides, drop, length};
 
-// Bytes that follow one another in an input, and where in it they begin.
-#[derive(Clone, Copy, Debug, PartialEq, Eq)]
+use std::fmt;
+
+// Bytes that follow one another in an input, and where in it they begin. Parts are equal where
+// their bytes and places are; they may be of two inputs.
+#[derive(Clone, Copy)]
+#[derive_where(PartialEq, Eq)]
 pub struct Part<'a> {
+    #[derive_where(skip)]
     pub(crate) input: &'a [u8],
     pub(crate) bytes: &'a [u8],
     pub(crate) place: usize,
     ghost within: { place + length bytes.now ≤ length input.now },
+    ghost fits: { place + length bytes.now < 2 ^ 64 },
+}
+
+// Without the input, which may be long.
+impl<'a> fmt::Debug for Part<'a> {
+    fn fmt<W: fmt::Write>(&self, f: &mut fmt::Formatter<W>) -> fmt::Result {
+        f.debug_struct("Part")
+            .field("bytes", &self.bytes)
+            .field("place", &self.place)
+            .finish()
+    }
 }
 
 impl<'a> Part<'a> {
@@ -45,5 +61,48 @@ impl<'a> Part<'a> {
         ensures { result ≡ self.now.place }
     {
         self.place
+    }
+
+    // Whether it has the same bytes at the same place, which `==` decides.
+    pub fn is_same(&self, other: &Part<'_>) -> bool
+        ensures { Decides result ((bytes_of self.now ≡ bytes_of other.now) × (self.now.place ≡ other.now.place)) }
+    {
+        self == other
+    }
+
+    // The same, where both inputs have the same bytes too.
+    pub fn is_identical(&self, other: &Part<'_>) -> bool
+        ensures { Decides result ((bytes_of self.now ≡ bytes_of other.now) × (self.now.place ≡ other.now.place) × (self.now.input.now ≡ other.now.input.now)) }
+    {
+        self.is_same(other) && self.input == other.input
+    }
+}
+
+#[cfg(test)]
+mod tests {
+    use super::*;
+    use crate::line::Line;
+    use crate::text::Text;
+    use faults::Fault;
+    use std::test::Fail;
+
+    fn first_line(input: &[u8]) -> Result<Part<'_>, Fault> {
+        match Text::new(input)?.next_line() {
+            Some(Line::Rule(part) | Line::Frame(part)) => Ok(part),
+            None => Err(Fault::RuleLine),
+        }
+    }
+
+    #[test]
+    fn parts_of_two_inputs_are_equal(rt: HostRuntime) -> Result<(), Fail> {
+        let one = first_line(b"single\n00")?;
+        let other = first_line(b"single\n01")?;
+        assert_eq!(rt; one, other);
+        assert!(rt; one.is_same(&other) && !one.is_identical(&other));
+        assert!(rt; !one.is_same(&first_line(b"switch\n")?));
+        let printed = format!(in rt.alloc(); "{one:?}")?;
+        let wanted = "Part { bytes: [115, 105, 110, 103, 108, 101], place: 0 }";
+        assert_eq!(rt; printed.as_str(), wanted);
+        Ok(())
     }
 }

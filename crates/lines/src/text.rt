@@ -1,5 +1,5 @@
 // The lines of an input, one after another.
-ghost use Rattle.std.specs.Prelude.{◌≡◌, ◌<◌, ◌≤◌, ◌==◌, false, [], ◌∷◌, map, position, length, IfSome, Some, None, MatchOption, MatchResult};
+ghost use Rattle.std.specs.Prelude.{◌≡◌, ◌<◌, ◌≤◌, ◌==◌, Decides, false, [], ◌∷◌, map, position, length, IfSome, Some, None, MatchOption, MatchResult};
 ghost use Rattle.faults.specs.Rows.{row_of, T, most_input};
 ghost use Rattle.rules.specs.Chosen.{meaning_of, state_of};
 ghost use Rattle.rules.specs.declared.mode.Mode.TheVariants.{Many};
@@ -69,6 +69,13 @@ impl<'a> Text<'a> {
             place: 0,
         };
         Ok(Text { rest, begun: false })
+    }
+
+    // Whether as much is left, at the same place of the same input, byte for byte.
+    pub fn is_identical(&self, other: &Text<'_>) -> bool
+        ensures { Decides result ((bytes_of self.now.rest ≡ bytes_of other.now.rest) × (self.now.rest.place ≡ other.now.rest.place) × (self.now.rest.input.now ≡ other.now.rest.input.now) × (self.now.begun ≡ other.now.begun)) }
+    {
+        self.rest.is_identical(&other.rest) && self.begun == other.begun
     }
 
     // Takes the next line: a rule first, and then frames. None is left at the end of the input.
