@@ -1,8 +1,12 @@
 -- The count of boundaries that are reached, one more at a time; its bound.
-use Rattle.std.proofs.Common.{◌≡◌, ℕ, zero, suc, ◌+◌, ◌≤◌, Bool, true, false, sym, refl, ap, ◌∙◌, subst, add-one, arith}
+use Rattle.std.proofs.Common.{◌≡◌, ℕ, zero, suc, ◌+◌, ◌≤◌, Bool, true, false, [], ◌∷◌, count_by, sym, refl, ap, ◌∙◌, subst, add-one, arith}
 use lib.Ieee.{Float, le}
 use Rattle.std.specs.Int.{from_bool}
-use Rattle.quantiser.specs.Levels.{boundary, steps_reached, one}
+use Rattle.std.specs.List.{range_with_len}
+use Rattle.std.proofs.lemmas.List.Sums.{sum_by-append}
+use Rattle.faults.proofs.Firsts.{range_more}
+use Rattle.quantiser.specs.declared.shape.Boundaries.{Boundaries}
+use Rattle.quantiser.specs.Levels.{boundary, steps_reached, bounds_reached, one}
 
 pub reached_none : (s x : Float) → 0 ≡ steps_reached s x 0
 unfolding steps_reached
@@ -33,3 +37,17 @@ reached_next s x k reached one_more false h e f =
     let more = reached_more s x k false e in
     let none : one_more ≡ 0 = f in
     (omega (arith, h.0, more), omega (arith, h.1))
+
+-- ---- the same as counts in lists
+-- of the boundaries 1 to n
+pub steps_counted : (s x : Float) (n : ℕ) → count_by (λ k. le (boundary s k) x) (range_with_len 1 n) ≡ steps_reached s x n
+unfolding steps_reached
+steps_counted s x zero = refl
+steps_counted s x (suc n) =
+    let e : 1 + n ≡ suc n = omega arith in
+    let z : (b : ℕ) → 0 + b ≡ b = λ b. omega arith in
+    rw (range_more 1 n, sum_by-append (λ k. one (le (boundary s k) x)) (range_with_len 1 n) ((1 + n) ∷ [])) (rw (steps_counted s x n, e) (ap (λ b. steps_reached s x n + b) (z (one (le (boundary s (suc n)) x)))))
+
+-- of three boundaries
+pub bounds_counted : (v : Boundaries) (x : Float) → count_by (λ b. le b x) (v.a ∷ v.b ∷ v.c ∷ []) ≡ bounds_reached v x
+bounds_counted v x = omega arith
