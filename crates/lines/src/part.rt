@@ -86,8 +86,12 @@ mod tests {
     use faults::Fault;
     use std::test::Fail;
 
-    fn first_line(input: &[u8]) -> Result<Part<'_>, Fault> {
-        match Text::new(input)?.next_line() {
+    fn line(input: &[u8], number: usize) -> Result<Part<'_>, Fault> {
+        let mut text = Text::new(input)?;
+        for _ in 0..number {
+            let _ = text.next_line();
+        }
+        match text.next_line() {
             Some(Line::Rule(part) | Line::Frame(part)) => Ok(part),
             None => Err(Fault::RuleLine),
         }
@@ -95,14 +99,14 @@ mod tests {
 
     #[test]
     fn parts_of_two_inputs_are_equal(rt: HostRuntime) -> Result<(), Fail> {
-        let one = first_line(b"single\n00")?;
-        let other = first_line(b"single\n01")?;
+        let one = line(b"single\n00", 0)?;
+        let other = line(b"single\n01", 0)?;
         assert_eq!(rt; one, other);
         assert!(rt; one.is_same(&other) && !one.is_identical(&other));
-        assert!(rt; !one.is_same(&first_line(b"switch\n")?));
-        let printed = format!(in rt.alloc(); "{one:?}")?;
-        let wanted = "Part { bytes: [115, 105, 110, 103, 108, 101], place: 0 }";
-        assert_eq!(rt; printed.as_str(), wanted);
+        assert!(rt; !one.is_same(&line(b"switch\n", 0)?));
+        let second = line(b"single\n0f", 1)?;
+        let printed = format!(in rt.alloc(); "{second:?}")?;
+        assert_eq!(rt; printed.as_str(), "Part { bytes: [48, 102], place: 7 }");
         Ok(())
     }
 }

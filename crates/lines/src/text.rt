@@ -71,7 +71,7 @@ impl<'a> Text<'a> {
         Ok(Text { rest, begun: false })
     }
 
-    // Whether as much is left, at the same place of the same input, byte for byte.
+    // Whether what is left is identical, and the first line was taken of both or of neither.
     pub fn is_identical(&self, other: &Text<'_>) -> bool
         ensures { Decides result ((bytes_of self.now.rest ≡ bytes_of other.now.rest) × (self.now.rest.place ≡ other.now.rest.place) × (self.now.rest.input.now ≡ other.now.rest.input.now) × (self.now.begun ≡ other.now.begun)) }
     {
